@@ -11,19 +11,14 @@ import tempfile
 import unittest
 from pathlib import Path
 
-from tests.harness import EXAMPLES, TOP, limited, scratch
-from tests.package import TOOL, Packaged
+from tests.harness import EXAMPLES, limited, scratch
+from tests.package import TOOL, Packaged, version
 from tests.pkcs11_module import HEADER
 
 FAULTS = []  # its fault is planted in the tool, by tests/planted.py
 HEADERS = [f"usr/include/{name}.h" for name in ("cca", "cca-pkcs11", "cca_client", "csnb")]
 # FIPS 113 has this message with its MAC by the key 0123456789ABCDEF, which is that of examples/start.txt.
 MESSAGE, MAC = "7654321 Now is the time for ", "f1d30f6849312ca4"
-
-
-@functools.cache
-def version():
-    return re.search(r"(?m)^## ([0-9.]+)$", (TOP / "docs" / "CHANGES.md").read_text())[1]
 
 
 @functools.cache
@@ -148,7 +143,7 @@ class Found(Libraries):
             self.skipTest("the header of p11-kit isn't installed (libp11-kit-dev)")
         root = self.root()
         name = re.fullmatch(r"module: /(\S+)\n", (root / "usr/share/p11-kit/modules/cca-pkcs11.module").read_text())[1]
-        self.assertIn(name, contents(self.package))
+        self.assertTrue((root / name).is_file(), name)
         if not shutil.which("pkcs11-tool"):
             self.skipTest("opensc isn't installed")
         words = ["pkcs11-tool", "--module", root / name, "--token-label", "DEFAULT", "--list-objects"]

@@ -103,6 +103,11 @@ EDITED = {
         [Edit("tools/package/run", "put 711 usr/bin", "put 755 usr/bin")],
         r"'usr/bin/cca': 493",
     ),
+    "package_libraries": (
+        [sys.executable, "-m", "unittest", "tests.package_libraries", "-k", "Places.test_of_programs"],
+        [Edit("tools/package/run", "put 644 usr/lib/cca/ibm", 'put 644 "$libraries"')],
+        r"^FAIL: test_of_programs",
+    ),
     "settings": (
         [sys.executable, "-m", "unittest", "tests.settings", "-k", "Wrong.test_words"],
         [Edit("examples/clients/settings.py", "if word not in known:", "if False:")],
