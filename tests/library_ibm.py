@@ -3,15 +3,16 @@ and each reason; the programs of examples/c; and once more under the sanitizers 
 """
 import ctypes
 import os
+import re
 import shutil
 import subprocess
 import unittest
 
-from tests.c_library import DOUBLE, IV, MASTER, NEXT, SANITIZERS, SINGLE, SOURCES, TRANSPORT, Library, called, chained, code, compiled, csnb
+from tests.c_library import DOUBLE, EVERY, IV, MASTER, NEXT, SANITIZERS, SINGLE, SOURCES, TRANSPORT, Library, called, chained, code, compiled, csnb
 from tests.c_library import data, declared, identifier, key_token, library, padded, room, sanitized, vector, words_of
 from tests.edits import Edit, each_is_found
-from tests.formats import closed, external, internal, joined, made, pattern, unique, value
-from tests.harness import EXAMPLES, Case, Fault
+from tests.formats import as_part, closed, external, internal, joined, made, pattern, types, unique, validation, value
+from tests.harness import EXAMPLES, TOP, Case, Fault
 
 FAULTS = [Fault('"$CCA" "$@" | sed -u "s/^NO 07/NO 08/"', case="Ibm.test_storage", tells=r"\(8, 8\) != \(8, 7\)")]
 # Each takes away what one of these cases asks for.
@@ -24,11 +25,21 @@ EDITS = [
     Edit("clients/c/csnb_call.c", "path[0] == '/' ||", "path[0] ||", "Programs.test_paths"),
     Edit("clients/c/csnb.c", "put_chain(chaining_vector, last);", "put_chain(chaining_vector, clear_text);", "Ibm.test_chaining"),
     Edit("clients/c/csnb.c", "memcmp(verification_pattern, value, 4) != 0", "0", "Ibm.test_check_values"),
+    Edit("clients/c/csnb.c", "memset(random_number, 0, length);", "(void)length;", "Ibm.test_random_of_any_length"),
+    Edit("clients/c/csnb.c", "cca_record_write(it->cca, label, changed)", "cca_record_write(it->cca, label, token)", "Ibm.test_changed_under_labels"),
+    Edit("clients/c/csnb_facility.c", "came.rule == 5)", "came.rule == 7)", "Ibm.test_facility"),
+    Edit("clients/c/csnb_tokens.c", "change_halves(whole + 32, 5, PART);", "(void)0;", "Ibm.test_tokens_without_a_key"),
 ]
 
 
 def mutable(number):
     return ctypes.c_long(number)
+
+
+def not_here():
+    """The verbs that docs/FROM-IBM.md names as those that aren't here."""
+    section = (TOP / "docs" / "FROM-IBM.md").read_text().partition("\n## Verbs that aren't here\n")[2].partition("\n## ")[0]
+    return {name for row in re.findall(r"(?m)^\| (CS[^|]*) \|", section) for name in row.split(", ")}
 
 
 class Ibm(Library):
@@ -88,6 +99,11 @@ class Ibm(Library):
         self.assertEqual(target.raw, key_token(SINGLE, "DATA"))
         self.held("A", DOUBLE, "MAC")
         self.is_done(csnb("CSNBCKI", SINGLE, identifier("A")))
+        for words, size, came in (((), 8, (0, 0)), (("DES",), 8, (0, 0)), (("DES",), 16, (8, 107)), (("AES",), 8, (8, 103))):
+            target = identifier()
+            self.assertEqual(csnb("CSNBCKM", *words_of(*words), ctypes.byref(mutable(size)), DOUBLE, target), came)
+            self.assertEqual(target.raw, key_token(DOUBLE[:8], "DATA") if came == (0, 0) else bytes(64))
+        self.is_done(csnb("CSNBCKM", *words_of(), ctypes.byref(mutable(8)), SINGLE, identifier("A")))
         for kind, size in (("EXPORTER", 16), ("CIPHER", 8)):
             parts = [made(f"part {it}", size) for it in range(3)]
             key = identifier()
@@ -171,6 +187,30 @@ class Ibm(Library):
         self.assertEqual({it.bit_count() % 2 for it in drawn.raw}, {1})
         self.assertEqual(csnb("CSNBRNG", b"NONE    ", drawn), (8, 103))
 
+    def test_random_of_any_length(self):
+        def drawn(size, *words):
+            out = room(size + 1)
+            came = csnb("CSNBRNGL", *words_of(*words), ctypes.byref(mutable(0)), None, ctypes.byref(mutable(size)), out)
+            self.assertEqual(out.raw[size:], b"\0")
+            return came, out.raw[:size]
+
+        for size in (1, 8, 13, 8192):
+            came, found = drawn(size, "ODD")
+            self.is_done(came)
+            self.assertEqual({it.bit_count() % 2 for it in found}, {1})
+        self.assertEqual(len({found[at : at + 8] for at in range(0, 8192, 8)}), 1024)
+        self.assertEqual({it.bit_count() % 2 for it in drawn(64, "EVEN")[1]}, {0})
+        self.assertEqual({it.bit_count() % 2 for it in drawn(256)[1]}, {0, 1})
+        for size, words, reason in ((0, [], 107), (8193, [], 107), (8, ["NONE"], 103)):
+            self.assertEqual(drawn(size, *words), ((8, reason), bytes(size)))
+        fake = self.folder / "fails"  # the second request isn't answered
+        fake.write_text("#!/usr/bin/env bash\nread -r line; echo OK random=0123456789abcdef; read -r line; exit 8\n")
+        fake.chmod(0o755)
+        it = self.opened(fake)
+        library().csnb_use(ctypes.byref(it.it))
+        (code_, reason), found = drawn(24)
+        self.assertEqual((code_, found), (12, bytes(24)), reason)
+
     def enciphered(self, verb, key, given, size, words, chain=None, iv=IV):
         """A call of CSNBENC or CSNBDEC: its codes, and what came."""
         length, out = mutable(size), room(size + 8)
@@ -239,7 +279,130 @@ class Ibm(Library):
         self.is_done(csnb("CSNBKTC", *words_of("RTCMK"), key))
         self.assertEqual(key.raw.hex(), internal(NEXT, SINGLE, vector("DATA", 8)))
         self.is_done(csnb("CSNBKYT", *words, key, room(8), test))
-        self.assertEqual(csnb("CSNBKTC", *words_of("RTCMK"), identifier("A")), (8, 105))
+        self.assertEqual(csnb("CSNBKTC", *words_of("RTCMK"), identifier()), (8, 105))
+
+    def changed_to(self, master):
+        for words, part in ((("FIRST",), master), (("LAST",), bytes(24)), (("SET",), None)):
+            self.is_done(csnb("CSNBMKP", *words_of(*words), part))
+
+    def test_changed_under_labels(self):
+        """The master key is changed twice, and the keys of labels are brought over by IBM's verbs alone."""
+        self.begun()
+        names = [self.held("A", SINGLE, "DATA"), self.held("B", DOUBLE, "MAC")]
+        self.changed_to(NEXT)
+        for change in (words_of("SET"), words_of("FIRST")):
+            csnb("CSNBMKP", *change, made("third", 24))
+        self.is_done(csnb("CSNBMKP", *words_of("LAST"), bytes(24)))
+        self.assertEqual(csnb("CSNBMKP", *words_of("SET"), None), (8, 27))
+        self.assertEqual(csnb("CSNBKTC", *words_of("RTNMK"), names[0]), (8, 18))
+        for _ in range(2):  # what is under the current master key stays
+            for name, key, kind in zip(names, (SINGLE, DOUBLE), ("DATA", "MAC")):
+                self.is_done(csnb("CSNBKTC", *words_of("RTCMK"), name))
+                held = room(64)
+                self.is_done(csnb("CSNBKRR", name, held))
+                self.assertEqual(held.raw.hex(), internal(NEXT, key, vector(kind, len(key))))
+        self.is_done(csnb("CSNBMKP", *words_of("SET"), None))
+        self.assertEqual(csnb("CSNBKTC", *words_of("RTCMK"), identifier("NONE")), (8, 7))
+        self.done(self.cca.role_define("DEFAULT", EVERY & ~0x10000))  # without KRW
+        self.assertEqual(csnb("CSNBKTC", *words_of("RTCMK"), names[0]), (8, 4))
+
+    def test_tokens_without_a_key(self):
+        """CSNBKTB: the token of each type and length, which CSNBKPI takes as it takes that of csnb_skeleton."""
+        unused = [None] * 9
+        for kind, lengths in types().items():
+            for size, wanted in lengths.items():
+                for words, given in (([], wanted), (["KEY-PART"], as_part(wanted)), (["NO-XPORT", "CV"], closed(wanted))):
+                    token = room(64)
+                    self.is_done(csnb("CSNBKTB", token, f"{kind:8}".encode(), *words_of("INTERNAL", f"KEYLN{size}", "NO-KEY", *words), *unused))
+                    body = b"\1\0\0\0\0\0\x40\0" + bytes(24) + given + bytes(12)
+                    self.assertEqual(token.raw.hex(), (body + validation(body)).hex(), (kind, size, words))
+            self.is_done(csnb("CSNBKTB", token, f"{kind:8}".encode(), *words_of("INTERNAL"), *unused))  # the shorter length
+            self.assertEqual(token.raw[32:48], lengths[min(lengths)])
+        self.begun()
+        for words in (["DOUBLE"], ["DOUBLE", "KEY-PART"]):
+            self.is_done(csnb("CSNBKTB", token, b"EXPORTER", *words_of("INTERNAL", *words), *unused))
+            parts = made("part 1", 16), made("part 2", 16)
+            for rule, part in zip(("FIRST", "LAST"), parts):
+                self.is_done(csnb("CSNBKPI", *words_of(rule), part, token))
+            self.assertEqual(token.raw, key_token(joined(*parts), "EXPORTER"))
+        for kind, words, reason in (
+            (b"PINGEN  ", ["INTERNAL"], 109),
+            (b"CIPHER  ", ["INTERNAL", "DOUBLE"], 109),
+            (b"EXPORTER", ["INTERNAL", "SINGLE"], 109),
+            (b"DATA    ", ["INTERNAL", "KEYLN24"], 103),
+            (b"DATA    ", ["INTERNAL", "KEY"], 103),
+            (b"DATA    ", ["EXTERNAL"], 103),
+            (b"DATA    ", ["INTERNAL", "SINGLE", "DOUBLE"], 104),
+            (b"DATA    ", [], 104),
+            (None, ["INTERNAL"], 101),
+        ):
+            token = room(64)
+            self.assertEqual(csnb("CSNBKTB", token, kind, *words_of(*words), *unused), (8, reason), words)
+            self.assertEqual(token.raw, bytes(64))
+
+    def test_control_vectors(self):
+        """CSNBCVG, without a cca too: each type's vector, and what its keywords change."""
+        library().csnb_use(None)
+        found = room(16)
+        for kind, lengths in types().items():
+            for size, wanted in lengths.items():
+                for words, given in (([], wanted), (["NO-XPORT"], closed(wanted)), (["KEY-PART", "XPORT-OK"], as_part(wanted))):
+                    self.is_done(csnb("CSNBCVG", f"{kind:8}".encode(), *words_of(f"KEYLN{size}", *words), None, found))
+                    self.assertEqual(found.raw.hex(), given.hex(), (kind, size, words))
+            if 16 in lengths:
+                self.is_done(csnb("CSNBCVG", f"{kind:8}".encode(), *words_of("DOUBLE-O"), None, found))
+                self.assertEqual(found.raw, unique(lengths[16]))
+        self.assertEqual(csnb("CSNBCVG", b"CIPHER  ", *words_of("DOUBLE-O"), None, found), (8, 109))
+
+    def test_facility(self):
+        """What a program asks first: whether there is a master key, under which role it speaks, and that there is one coprocessor."""
+        unknown, no = b" " * 8, b"1       "
+
+        def status(question="STATCCAE"):
+            count, array, length = mutable(1), ctypes.create_string_buffer(f"{question:8}".encode(), 120), mutable(7)
+            self.is_done(csnb("CSUACFQ", ctypes.byref(count), array, ctypes.byref(length), None))
+            self.assertEqual((length.value, array.raw[8 * count.value :]), (0, bytes(120 - 8 * count.value)))
+            return [array.raw[at : at + 8] for at in range(0, 8 * count.value, 8)]
+
+        def wanted(current, role=b"DEFAULT "):
+            return [unknown, current, unknown, b"1.0.0   ", unknown, role, no, no, no]
+
+        self.assertEqual(status(), wanted(no))
+        self.begun()
+        self.assertEqual(status(), wanted(b"2       "))
+        self.assertEqual(status("STATCCA"), wanted(b"2       ")[:6])
+        self.assertEqual(status("STATCARD"), [no] + [unknown] * 14)
+        for points, current in ((0, unknown), (0x10, b"2       "), (1, b"2       "), (4, b"2       "), (0x2000, b"2       ")):
+            self.done(self.cca.role_define("ASKS", points))
+            it = self.opened(role="ASKS")
+            self.cca.close()
+            library().csnb_use(ctypes.byref(it.it))
+            self.assertEqual(status(), wanted(current, b"ASKS    "), points)
+            it.close()
+            library().csnb_use(ctypes.byref(self.cca.it))
+        self.assertEqual(self.ask(["CSNBKRL role=DEFAULT prefix="]), ["OK count=0 labels="])
+        self.assertEqual(csnb("CSUACFQ", *words_of("STATEID"), None, None), (8, 103))
+        version, length = room(60), mutable(60)
+        self.is_done(csnb("CSUACFV", ctypes.byref(length), version))
+        self.assertEqual((length.value, version.value), (5, b"1.0.0"))
+        length.value = 5  # too short for its end
+        self.assertEqual(csnb("CSUACFV", ctypes.byref(length), version), (8, 107))
+        for verb in ("CSUACRA", "CSUACRD"):
+            self.is_done(csnb(verb, *words_of("DEVICE"), ctypes.byref(mutable(8)), b"CRP01   "))
+            self.assertEqual(csnb(verb, *words_of("DEVICE"), ctypes.byref(mutable(8)), b"CRP02   "), (8, 111))
+            self.assertEqual(csnb(verb, *words_of("DEVICE"), ctypes.byref(mutable(65)), b"CRP01" + b" " * 60), (8, 107))
+
+    def test_facility_ended(self):
+        """Where cca doesn't reply, its state isn't guessed."""
+        it = self.opened(self.standing())
+        library().csnb_use(ctypes.byref(it.it))
+        array = ctypes.create_string_buffer(b"STATCCAE", 120)
+        for reply, came in (("ends 8", (12, 2008)), ("ends 10", (12, 1010)), ("NO 05 -", (0, 0))):
+            (self.folder / "reply").write_text(reply)
+            self.assertEqual(csnb("CSUACFQ", ctypes.byref(mutable(1)), array, None, None), came)
+            self.assertEqual(array.raw[:8], b"STATCCAE" if came[0] else b" " * 8)
+        library().csnb_use(None)
+        self.assertEqual(csnb("CSUACFQ", *words_of("STATCARD"), None, None), (12, 1))
 
     def test_reasons(self):
         """What a parameter can't say: nothing is sent, and each has its own reason."""
@@ -292,7 +455,7 @@ class Ibm(Library):
                 Ibm(name).run(unittest.TestResult())
         verbs = {name for name, *_ in declared("csnb.h") if name.startswith("CS")}
         self.assertEqual(verbs - called, set())
-        self.assertEqual(len(verbs), 22)
+        self.assertEqual(len(verbs), 30)
 
 
 class Programs(Library):
@@ -364,11 +527,24 @@ class Built(Library):
         """The shared libraries export what the headers declare, and nothing else."""
         verbs = {name for name, *_ in declared("csnb.h")}
         self.assertEqual(self.exported("libcca.so"), verbs | {name for header in ("cca.h", "cca_client.h") for name, *_ in declared(header)})
-        self.assertEqual(self.exported("libcsulcca.so"), verbs)
+        self.assertEqual(self.exported("libcsulcca.so"), verbs | not_here())
+        self.assertEqual(verbs & not_here(), set())
         for name, soname in (("libcca.so", "libcca.so.1"), ("libcsulcca.so", "libcsulcca.so")):
             it = subprocess.run(["readelf", "-d", self.libraries / name], capture_output=True, text=True, check=True)
             self.assertRegex(it.stdout, rf"SONAME.*\[{soname}\]")
         self.assertEqual((self.libraries / "libcca.so.1").resolve().name, "libcca.so.1.2.3")
+
+    def test_not_here(self):
+        """Each name of IBM's that isn't in this profile answers so, whatever its parameters are."""
+        it = ctypes.CDLL(str(self.libraries / "libcsulcca.so"))
+        it.csnb_reason.restype = ctypes.c_char_p
+        self.assertEqual(len(not_here()), 66)
+        for name in not_here():
+            code_, reason = mutable(-1), mutable(-1)
+            getattr(it, name)(ctypes.byref(code_), ctypes.byref(reason), *[None] * 15)
+            self.assertEqual((code_.value, reason.value), (12, 2), name)
+            getattr(it, name)(None, None)
+        self.assertEqual(it.csnb_reason(12, 2), b"the verb isn't in this profile")
 
     def test_linked(self):
         """A program that is linked to each of them computes its MAC, and the static one can be a part of another shared library."""

@@ -3,6 +3,7 @@
 #define _GNU_SOURCE
 #endif
 #include "csnb_call.h"
+#include "exchange.h"
 
 #include <stdio.h>
 #include <stdlib.h>
@@ -10,6 +11,7 @@
 #include <unistd.h>
 
 #define BEGIN(are_there) call_begin(&it, exit_data_length, exit_data, (are_there))
+#define LONGEST_RANDOM 8192
 #define END() call_end(&it, return_code, reason_code)
 
 /* ---- master keys and roles */
@@ -169,6 +171,23 @@ void SECURITYAPI CSNBCKI(CSNB_FIRST_FOUR, unsigned char *clear_key, unsigned cha
     END();
 }
 
+void SECURITYAPI CSNBCKM(CSNB_FIRST_FOUR, long *rule_array_count, unsigned char *rule_array, long *clear_key_length,
+                         unsigned char *clear_key, unsigned char *target_key_identifier)
+{
+    static const char *const algorithms[] = {"DES", NULL};
+    struct operand target;
+    struct call it;
+    BEGIN(clear_key != NULL);
+    call_words(&it, rule_array_count, rule_array);
+    call_choose(&it, algorithms, 0);
+    if (call_length(&it, clear_key_length) != 8)
+        call_fault(&it, CSNB_LENGTH);
+    call_is_target(&it, target_key_identifier, &target);
+    if (call_ready(&it))
+        call_came(&it, cca_clear_key_import(it.cca, clear_key, target.key.label, target_key_identifier));
+    END();
+}
+
 /* Whether a token has the type that a key_type parameter names: TOKEN takes any. */
 static int is_of_type(const unsigned char *key_type, const unsigned char *token)
 {
@@ -294,21 +313,6 @@ void SECURITYAPI CSNBKGN(CSNB_FIRST_FOUR, unsigned char *key_form, unsigned char
     END();
 }
 
-/* The type that a token without a key has, and the length of its part; else null. */
-static const char *skeleton_type(const unsigned char *token, size_t *length)
-{
-    static const unsigned char zeros[16];
-    const struct cca_type *type;
-    if (token[0] != 1 || memcmp(token + 16, zeros, 16) != 0)
-        return NULL;
-    for (type = cca_types; type->name; type++) {
-        *length = has_type(token, type, 8) ? 8 : 16;
-        if (has_type(token, type, (int)*length) && token[37] != 0xC0)
-            return type->name;
-    }
-    return NULL;
-}
-
 /* A later part. The length of the key under a label isn't known here: a part of the wrong length is refused and changes nothing. */
 static void next_part(struct call *it, const char *rule, const struct operand *key, const unsigned char *part, unsigned char *token)
 {
@@ -345,6 +349,17 @@ void SECURITYAPI CSNBKPI(CSNB_FIRST_FOUR, long *rule_array_count, unsigned char 
     END();
 }
 
+/* The key under a label: read, changed, and written back where it isn't the same token. */
+static void change_label(struct call *it, const char *rule, const char *label)
+{
+    unsigned char token[CCA_TOKEN_SIZE], changed[CCA_TOKEN_SIZE];
+    call_came(it, cca_record_read(it->cca, label, token));
+    if (it->is_done)
+        call_came(it, cca_token_change(it->cca, rule, token, changed));
+    if (it->is_done && memcmp(token, changed, sizeof token) != 0)
+        call_came(it, cca_record_write(it->cca, label, changed));
+}
+
 void SECURITYAPI CSNBKTC(CSNB_FIRST_FOUR, long *rule_array_count, unsigned char *rule_array, unsigned char *key_identifier)
 {
     static const char *const rules[] = {"RTCMK", "RTNMK", NULL};
@@ -355,10 +370,12 @@ void SECURITYAPI CSNBKTC(CSNB_FIRST_FOUR, long *rule_array_count, unsigned char 
     call_words(&it, rule_array_count, rule_array);
     rule = call_choose(&it, rules, -1);
     call_key(&it, key_identifier, &key);
-    if (!key.key.token)
-        call_fault(&it, CSNB_KEY);
-    if (call_ready(&it))
-        call_came(&it, cca_token_change(it.cca, rules[rule], key_identifier, key_identifier));
+    if (call_ready(&it)) {
+        if (key.key.label)
+            change_label(&it, rules[rule], key.label);
+        else
+            call_came(&it, cca_token_change(it.cca, rules[rule], key_identifier, key_identifier));
+    }
     if (it.is_done)
         it.reason = 0; /* the key was under the old master key, and no more is */
     END();
@@ -454,6 +471,33 @@ void SECURITYAPI CSNBRNG(CSNB_FIRST_FOUR, unsigned char *form, unsigned char *ra
     chosen = call_choose(&it, forms, -1);
     if (call_ready(&it))
         call_came(&it, cca_random(it.cca, forms[chosen], random_number));
+    END();
+}
+
+void SECURITYAPI CSNBRNGL(CSNB_FIRST_FOUR, long *rule_array_count, unsigned char *rule_array, long *reserved_length,
+                          unsigned char *reserved, long *random_number_length, unsigned char *random_number)
+{
+    static const char *const forms[] = {"RANDOM", "ODD", "EVEN", NULL};
+    unsigned char drawn[8];
+    struct call it;
+    size_t length, at;
+    int chosen;
+    (void)reserved_length, (void)reserved;
+    BEGIN(random_number != NULL);
+    call_words(&it, rule_array_count, rule_array);
+    chosen = call_choose(&it, forms, 0);
+    length = call_length(&it, random_number_length);
+    if (length < 1 || length > LONGEST_RANDOM)
+        call_fault(&it, CSNB_LENGTH);
+    call_ready(&it);
+    for (at = 0; at < length && it.code == 0; at += sizeof drawn) {
+        call_came(&it, cca_random(it.cca, forms[chosen], drawn));
+        if (it.is_done)
+            memcpy(random_number + at, drawn, length - at < sizeof drawn ? length - at : sizeof drawn);
+    }
+    if (random_number && it.code != 0 && length <= LONGEST_RANDOM)
+        memset(random_number, 0, length); /* no half of a key is taken for the whole */
+    exchange_wipe(drawn, sizeof drawn);
     END();
 }
 

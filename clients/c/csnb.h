@@ -47,6 +47,7 @@ extern "C" {
 
 /* Return code 12: no reply came. With the exit status of cca, or 128 and the number of a signal, or 0 where it isn't known: */
 #define CSNB_NOWHERE 1       /* no cca is named */
+#define CSNB_NOT_HERE 2      /* a verb of IBM's that isn't in this profile: libcsulcca.so alone has its name */
 #define CSNB_NOT_DONE 1000   /* and the status: the request wasn't carried out */
 #define CSNB_IN_DOUBT 2000   /* and the status: it may have been carried out all the same */
 
@@ -57,7 +58,7 @@ void csnb_use(struct cca *it);
 const char *csnb_reason(long return_code, long reason_code);
 
 /* A token without a key that has the control vector of a key type, of 8 or 16 bytes: the key identifier of CSNBKPI FIRST. It is
-   this project's own, in place of Key_Token_Build: 0, or -1 where there is no such type. */
+   this project's own, a shorter word for CSNBKTB: 0, or -1 where there is no such type. */
 int csnb_skeleton(const char *key_type, int key_length, unsigned char token[CCA_TOKEN_SIZE]);
 
 #define CSNB_FIRST_FOUR long *return_code, long *reason_code, long *exit_data_length, unsigned char *exit_data
@@ -67,6 +68,17 @@ int csnb_skeleton(const char *key_type, int key_length, unsigned char token[CCA_
 void SECURITYAPI CSNBMKP(CSNB_FIRST_FOUR, long *rule_array_count, unsigned char *rule_array, unsigned char *key_part);
 void SECURITYAPI CSUAACI(CSNB_FIRST_FOUR, long *rule_array_count, unsigned char *rule_array, long *verb_data_1_length,
                          unsigned char *verb_data_1, long *verb_data_2_length, unsigned char *verb_data_2);
+
+/* ---- what a program asks about its coprocessor: docs/FROM-IBM.md says which answers are fixed */
+
+/* The rule array needs room for 15 elements: they come in its place. */
+void SECURITYAPI CSUACFQ(CSNB_FIRST_FOUR, long *rule_array_count, unsigned char *rule_array, long *verb_data_length,
+                         unsigned char *verb_data);
+void SECURITYAPI CSUACFV(CSNB_FIRST_FOUR, long *version_data_length, unsigned char *version_data);
+void SECURITYAPI CSUACRA(CSNB_FIRST_FOUR, long *rule_array_count, unsigned char *rule_array, long *resource_name_length,
+                         unsigned char *resource_name);
+void SECURITYAPI CSUACRD(CSNB_FIRST_FOUR, long *rule_array_count, unsigned char *rule_array, long *resource_name_length,
+                         unsigned char *resource_name);
 
 /* ---- key storage */
 
@@ -80,6 +92,10 @@ void SECURITYAPI CSNBKRW(CSNB_FIRST_FOUR, unsigned char *key_token, unsigned cha
 /* ---- keys */
 
 void SECURITYAPI CSNBCKI(CSNB_FIRST_FOUR, unsigned char *clear_key, unsigned char *target_key_identifier);
+void SECURITYAPI CSNBCKM(CSNB_FIRST_FOUR, long *rule_array_count, unsigned char *rule_array, long *clear_key_length,
+                         unsigned char *clear_key, unsigned char *target_key_identifier);
+void SECURITYAPI CSNBCVG(CSNB_FIRST_FOUR, unsigned char *key_type, long *rule_array_count, unsigned char *rule_array,
+                         unsigned char *reserved, unsigned char *control_vector);
 void SECURITYAPI CSNBKEX(CSNB_FIRST_FOUR, unsigned char *key_type, unsigned char *source_key_identifier,
                          unsigned char *exporter_key_identifier, unsigned char *target_key_token);
 void SECURITYAPI CSNBKGN(CSNB_FIRST_FOUR, unsigned char *key_form, unsigned char *key_length, unsigned char *key_type_1,
@@ -89,6 +105,10 @@ void SECURITYAPI CSNBKIM(CSNB_FIRST_FOUR, unsigned char *key_type, unsigned char
                          unsigned char *importer_key_identifier, unsigned char *target_key_identifier);
 void SECURITYAPI CSNBKPI(CSNB_FIRST_FOUR, long *rule_array_count, unsigned char *rule_array, unsigned char *key_part,
                          unsigned char *key_identifier);
+void SECURITYAPI CSNBKTB(CSNB_FIRST_FOUR, unsigned char *key_token, unsigned char *key_type, long *rule_array_count,
+                         unsigned char *rule_array, unsigned char *key_value, void *reserved_1, long *reserved_2,
+                         unsigned char *reserved_3, unsigned char *control_vector, unsigned char *reserved_4, long *reserved_5,
+                         unsigned char *reserved_6, unsigned char *master_key_verification_pattern);
 void SECURITYAPI CSNBKTC(CSNB_FIRST_FOUR, long *rule_array_count, unsigned char *rule_array, unsigned char *key_identifier);
 void SECURITYAPI CSNBKTP(CSNB_FIRST_FOUR, unsigned char *key_token, unsigned char *key_type, long *rule_array_count,
                          unsigned char *rule_array, unsigned char *key_value, void *reserved_1, long *reserved_2,
@@ -100,6 +120,8 @@ void SECURITYAPI CSNBKYT(CSNB_FIRST_FOUR, long *rule_array_count, unsigned char 
                          unsigned char *random_number, unsigned char *verification_pattern);
 void SECURITYAPI CSNBPEX(CSNB_FIRST_FOUR, unsigned char *key_identifier);
 void SECURITYAPI CSNBRNG(CSNB_FIRST_FOUR, unsigned char *form, unsigned char *random_number);
+void SECURITYAPI CSNBRNGL(CSNB_FIRST_FOUR, long *rule_array_count, unsigned char *rule_array, long *reserved_length,
+                          unsigned char *reserved, long *random_number_length, unsigned char *random_number);
 
 /* ---- data */
 

@@ -171,13 +171,18 @@ size_t call_length(struct call *it, const long *length)
     return 0;
 }
 
-int call_ready(struct call *it)
+int call_understood(struct call *it)
 {
     if (it->used != (1u << it->count) - 1)
         call_fault(it, CSNB_KEYWORD);
     if (it->is_missing)
         call_fault(it, CSNB_KEYWORDS);
-    if (it->code == 0 && !it->cca) {
+    return it->code == 0;
+}
+
+int call_ready(struct call *it)
+{
+    if (call_understood(it) && !it->cca) {
         it->code = 12;
         it->reason = CSNB_NOWHERE;
     }
@@ -231,101 +236,4 @@ void field_fill(unsigned char *field, const char *text, size_t size)
     size_t length = strlen(text) < size ? strlen(text) : size;
     memset(field, ' ', size);
     memcpy(field, text, length);
-}
-
-/* ---- key types */
-
-/* The vectors of both halves: those of the type, with other bytes for the form of the key. */
-static int has_halves(const unsigned char *vectors, const unsigned char *left, unsigned char left_form, unsigned char right_form)
-{
-    unsigned char wanted[16];
-    memcpy(wanted, left, 8);
-    memcpy(wanted + 8, left, 8);
-    wanted[5] = left_form;
-    wanted[13] = right_form;
-    return memcmp(vectors, wanted, 16) == 0;
-}
-
-int has_type(const unsigned char *token, const struct cca_type *type, int length)
-{
-    static const unsigned char zeros[8];
-    const unsigned char *vectors = token + 32;
-    if (length == 8)
-        return memcmp(type->single, zeros, 8) != 0 && memcmp(vectors, type->single, 8) == 0 && memcmp(vectors + 8, zeros, 8) == 0;
-    if (memcmp(type->left, zeros, 8) == 0)
-        return 0;
-    return has_halves(vectors, type->left, 0x41, 0x21) || has_halves(vectors, type->left, 0xC0, 0xA0);
-}
-
-int csnb_skeleton(const char *key_type, int key_length, unsigned char token[CCA_TOKEN_SIZE])
-{
-    const struct cca_type *type = cca_types;
-    static const unsigned char zeros[8];
-    const unsigned char *vector;
-    uint32_t sum = 0;
-    int at;
-    while (type->name && strcmp(type->name, key_type) != 0)
-        type++;
-    vector = key_length == 8 ? type->single : type->left;
-    if (!type->name || (key_length != 8 && key_length != 16) || memcmp(vector, zeros, 8) == 0)
-        return -1;
-    memset(token, 0, CCA_TOKEN_SIZE);
-    token[0] = 1;
-    token[6] = 0x40; /* a control vector and no key */
-    memcpy(token + 32, vector, 8);
-    if (key_length == 16) {
-        memcpy(token + 40, vector, 8);
-        token[45] = 0x21;
-    }
-    for (at = 0; at < 60; at += 4)
-        sum += (uint32_t)token[at] << 24 | (uint32_t)token[at + 1] << 16 | (uint32_t)token[at + 2] << 8 | token[at + 3];
-    for (at = 60; at < 64; at++)
-        token[at] = (unsigned char)(sum >> (63 - at) * 8);
-    return 0;
-}
-
-/* ---- reasons as sentences */
-
-static const char *own_reason(long reason)
-{
-    switch (reason) {
-    case CSNB_MISSING:
-        return "a parameter is a null pointer";
-    case CSNB_EXIT_DATA:
-        return "exit_data_length isn't 0";
-    case CSNB_KEYWORD:
-        return "a keyword isn't one of this verb here";
-    case CSNB_KEYWORDS:
-        return "a keyword is missing, two exclude each other, or there are too many or too few";
-    case CSNB_KEY:
-        return "a key identifier has no key, or one of a kind that the verb doesn't take here";
-    case CSNB_LABEL:
-        return "a label is empty, or has a byte that no request can have";
-    case CSNB_LENGTH:
-        return "a length is negative, or isn't the one that the parameter has";
-    case CSNB_PAD:
-        return "the pad character isn't X'00'";
-    case CSNB_KEY_TYPE:
-        return "a key type, length or form isn't there, or the key has another type";
-    case CSNB_LIST:
-        return "the list of labels can't be written: look at CSUDESLD";
-    }
-    return "the parameters fit no request";
-}
-
-const char *csnb_reason(long return_code, long reason_code)
-{
-    const char *rule = cca_rule(reason_code > 0 && reason_code < 100 ? (int)reason_code : 0);
-    switch (return_code) {
-    case 0:
-        return reason_code == CSNB_OLD_KEY ? "done, with a key under the old master key" : "done";
-    case 4:
-        return "the MAC or the check value doesn't match";
-    case 8:
-        return rule ? rule : own_reason(reason_code);
-    }
-    if (reason_code == CSNB_NOWHERE)
-        return "no cca is named: set CCA_SOCKET, or CCA_FOLDER and CCA_ROLE";
-    return reason_code >= CSNB_IN_DOUBT ? "cca ended; the request may have been carried out all the same"
-                                        : "cca ended; the request wasn't carried out";
 }

@@ -45,7 +45,10 @@ int call_is_target(struct call *it, const unsigned char *identifier, struct oper
 /* A length, or 0 where it is negative. */
 size_t call_length(struct call *it, const long *length);
 
-/* Whether nothing is wrong, so that cca is asked. */
+/* Whether nothing is wrong with the parameters. */
+int call_understood(struct call *it);
+
+/* The same, and there is a cca, which is asked. */
 int call_ready(struct call *it);
 
 /* Takes the result of the verb. */
@@ -62,5 +65,8 @@ void field_fill(unsigned char *field, const char *text, size_t size);
 
 /* Whether a token has the control vector of a key type, for a length: 8, or 16 with either form. */
 int has_type(const unsigned char *token, const struct cca_type *type, int length);
+
+/* The type that a token without a key has, as CSNBKPI FIRST takes it, and the length of a part; else null. */
+const char *skeleton_type(const unsigned char *token, size_t *length);
 
 #endif

@@ -1,0 +1,85 @@
+/* The verbs of IBM's Linux library that aren't in this profile, for libcsulcca.so alone: a program that looks up all names when it
+   begins finds them, and each answers that it isn't here. Their other parameters aren't looked at, whichever they are. */
+#include "csnb.h"
+
+#define NOT_HERE(verb)                                      \
+    void SECURITYAPI verb(long *return_code, long *reason_code); \
+    void SECURITYAPI verb(long *return_code, long *reason_code)  \
+    {                                                       \
+        not_here(return_code, reason_code);                 \
+    }
+
+static void not_here(long *return_code, long *reason_code)
+{
+    if (return_code)
+        *return_code = 12;
+    if (reason_code)
+        *reason_code = CSNB_NOT_HERE;
+}
+
+NOT_HERE(CSNBAKRC)
+NOT_HERE(CSNBCPA)
+NOT_HERE(CSNBCPE)
+NOT_HERE(CSNBCSG)
+NOT_HERE(CSNBCSV)
+NOT_HERE(CSNBCVE)
+NOT_HERE(CSNBCVT)
+NOT_HERE(CSNBDKG)
+NOT_HERE(CSNBDKM)
+NOT_HERE(CSNBDKX)
+NOT_HERE(CSNBEPG)
+NOT_HERE(CSNBHMG)
+NOT_HERE(CSNBHMV)
+NOT_HERE(CSNBKET)
+NOT_HERE(CSNBKGN2)
+NOT_HERE(CSNBKPI2)
+NOT_HERE(CSNBKSI)
+NOT_HERE(CSNBKTB2)
+NOT_HERE(CSNBKYTX)
+NOT_HERE(CSNBMDG)
+NOT_HERE(CSNBOWH)
+NOT_HERE(CSNBPCU)
+NOT_HERE(CSNBPEXX)
+NOT_HERE(CSNBPGN)
+NOT_HERE(CSNBPTR)
+NOT_HERE(CSNBPVR)
+NOT_HERE(CSNBSAD)
+NOT_HERE(CSNBSAE)
+NOT_HERE(CSNBSKY)
+NOT_HERE(CSNBSPN)
+NOT_HERE(CSNBTRV)
+NOT_HERE(CSNDDSG)
+NOT_HERE(CSNDDSV)
+NOT_HERE(CSNDKRC)
+NOT_HERE(CSNDKRD)
+NOT_HERE(CSNDKRL)
+NOT_HERE(CSNDKRR)
+NOT_HERE(CSNDKRW)
+NOT_HERE(CSNDKTC)
+NOT_HERE(CSNDPKB)
+NOT_HERE(CSNDPKD)
+NOT_HERE(CSNDPKE)
+NOT_HERE(CSNDPKG)
+NOT_HERE(CSNDPKH)
+NOT_HERE(CSNDPKI)
+NOT_HERE(CSNDPKR)
+NOT_HERE(CSNDPKX)
+NOT_HERE(CSNDRKD)
+NOT_HERE(CSNDRKL)
+NOT_HERE(CSNDRKX)
+NOT_HERE(CSNDSBC)
+NOT_HERE(CSNDSBD)
+NOT_HERE(CSNDSYG)
+NOT_HERE(CSNDSYI)
+NOT_HERE(CSNDSYX)
+NOT_HERE(CSNDTBC)
+NOT_HERE(CSUAACM)
+NOT_HERE(CSUACFC)
+NOT_HERE(CSUADHK)
+NOT_HERE(CSUADHQ)
+NOT_HERE(CSUAKSD)
+NOT_HERE(CSUALCT)
+NOT_HERE(CSUAMKD)
+NOT_HERE(CSUAPCV)
+NOT_HERE(CSUAPRB)
+NOT_HERE(CSUARNT)
