@@ -11,7 +11,8 @@ from concurrent.futures import ThreadPoolExecutor
 
 from tests.harness import TOP, program_path
 
-SHARED = {"__init__", "__main__", "c_library", "edits", "harness", "formats", "keys", "pkcs11_module"}  # what files of checks share
+# what files of checks share
+SHARED = {"__init__", "__main__", "c_library", "cryptoki", "edits", "harness", "formats", "keys", "pkcs11_module"}
 # those that take longest, the first one longest
 LONGEST = ["front", "pkcs11", "client_replies", "planted", "tools/commands/run", "library_c", "python_library", "reencipher"]
 

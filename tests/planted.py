@@ -140,6 +140,8 @@ class Planted(Case):
         """A check fails with its fault, and tells it."""
         options = {"cwd": folder, "env": {**os.environ, **named}, "stdin": subprocess.DEVNULL}
         it = subprocess.run(words, stdout=subprocess.PIPE, stderr=subprocess.STDOUT, text=True, **options)
+        if it.returncode == 0 and re.search(r"^Ran 0 tests .*\n\nOK \(skipped=", it.stdout, re.MULTILINE):
+            self.skipTest("what the check needs isn't installed")
         if it.returncode == 0 or not re.search(tells, it.stdout, re.MULTILINE):
             self.fail(f"exit status {it.returncode}, and nothing like {tells}:\n{it.stdout[-1000:]}")
 
