@@ -27,6 +27,7 @@ EDITS = [
     Edit("clients/c/csnb.c", "memcmp(verification_pattern, value, 4) != 0", "0", "Ibm.test_check_values"),
     Edit("clients/c/csnb.c", "memset(random_number, 0, length);", "(void)length;", "Ibm.test_random_of_any_length"),
     Edit("clients/c/csnb.c", "cca_record_write(it->cca, label, changed)", "cca_record_write(it->cca, label, token)", "Ibm.test_changed_under_labels"),
+    Edit("clients/c/csnb_reason.c", "found = nearest[*reason];", "found = nearest[1];", "Reasons.test_ibms"),
     Edit("clients/c/csnb_facility.c", "came.rule == 5)", "came.rule == 7)", "Ibm.test_facility"),
     Edit("clients/c/csnb_tokens.c", "change_halves(whole + 32, 5, PART);", "(void)0;", "Ibm.test_tokens_without_a_key"),
 ]
@@ -509,6 +510,78 @@ class Programs(Library):
         self.assertEqual((came.returncode, came.stderr), (1, b"file: refused by rule 07, field key: the label doesn't exist\n"))
 
 
+REASONS = """
+#include "csnb.h"
+#include <stdio.h>
+#include <string.h>
+
+static void told(unsigned char *label)
+{
+    long code, reason;
+    CSNBKRC(&code, &reason, NULL, NULL, label);
+    printf("%ld, %ld, %s\\n", code, reason, csnb_reason(code, reason));
+}
+
+int main(void)
+{
+    unsigned char label[64];
+    int rule;
+    memset(label, ' ', sizeof label);
+    told(label);
+    told(NULL);
+    label[0] = 'A';
+    for (rule = 1; rule <= 37; rule++)
+        told(label);
+    return 0;
+}
+"""
+REFUSES = """#!/usr/bin/env bash
+for rule in {01..36}; do
+    read -r line
+    echo "NO $rule label"
+done
+"""
+
+
+def nearest():
+    """IBM's nearest pair for each rule, as docs/FROM-IBM.md has it; none where none is near."""
+    section = (TOP / "docs" / "FROM-IBM.md").read_text().partition("\n## The rules, and IBM's nearest codes\n")[2]
+    return {int(rule): pair for rule, pair in re.findall(r"\| (\d\d) \| (\d+, \d+|-)", section)}
+
+
+class Reasons(Library):
+    def told(self, **named):
+        """What a program is told of each rule, of a blank label and of a null pointer; and where cca ended."""
+        source, refuses = self.folder / "reasons.c", self.folder / "refuses"
+        source.write_text(REASONS)
+        refuses.write_text(REFUSES)
+        refuses.chmod(0o755)
+        program = compiled("reasons", [source, *sorted(SOURCES.glob("*.c"))], *(SANITIZERS if shutil.which("gcc") else []))
+        environment = {**os.environ, "CCA": str(refuses), "CCA_FOLDER": str(self.folder), "CCA_ROLE": "DEFAULT", **named}
+        came = subprocess.run([program], env=environment, capture_output=True, text=True, check=True)
+        return [line.split(", ", 2) for line in came.stdout.splitlines()]
+
+    def test_ours(self):
+        told = self.told()
+        self.assertEqual([it[:2] for it in told[:2]], [["8", "106"], ["8", "101"]])
+        self.assertEqual([it[:2] for it in told[2:38]], [["8", str(rule)] for rule in range(1, 37)])
+
+    def test_ibms(self):
+        """Refusals by IBM's nearest numbers, as the page has them, and what isn't near by numbers that aren't IBM's."""
+        wanted = nearest()
+        self.assertEqual(sorted(wanted), list(range(1, 37)))
+        label, null, *rules, ended = self.told(CCA_REASONS="ibm")
+        self.assertEqual((", ".join(label[:2]), null[:2]), (wanted[6], ["8", "9101"]))
+        self.assertEqual([", ".join(it[:2]) for it in rules], [f"8, {9000 + rule}" if it == "-" else it for rule, it in sorted(wanted.items())])
+        self.assertIn(ended[0], "12")
+        self.assertIn(int(ended[1]) // 1000, (1, 2))
+        sentences = [it[2] for it in rules]
+        self.assertEqual((sentences[6], label[2]), ("the label doesn't exist", "the text isn't a label"))
+        self.assertTrue(sentences[13].startswith("refused: several rules"), sentences[13])
+        self.assertEqual(sentences[26], "SET or AHEAD, and a label is under the old master key")
+        self.assertEqual(null[2], "a parameter is a null pointer")
+
+
 class Built(Library):
     """What clients/c/build makes: a static library, a shared one, and one with the name of IBM's."""
 
@@ -559,6 +632,17 @@ class Built(Library):
             came = subprocess.run([program], env=environment, capture_output=True, text=True)
             self.assertEqual((came.returncode, came.stderr), (0, ""), linked)
             self.assertIn("CSNBMVR: return code 0, reason 0: done\n", came.stdout)
+
+    def test_cplusplus(self):
+        """A program in C++ finds each name of csnb.h."""
+        if not shutil.which("g++"):
+            self.skipTest("g++ isn't installed")
+        names = [name for name, *_ in declared("csnb.h")]
+        held = ", ".join(f"reinterpret_cast<function>({name})" for name in names)
+        (self.folder / "names.cpp").write_text(f'#include "csnb.h"\ntypedef void (*function)();\nfunction names[] = {{{held}}};\nint main() {{}}\n')
+        words = ["g++", "-Wall", "-Wextra", "-Werror", "-I", SOURCES, "-o", self.folder / "names", self.folder / "names.cpp"]
+        subprocess.run([*words, self.libraries / "libcca.a", "-pthread"], check=True)
+        self.assertEqual(subprocess.run([self.folder / "names"]).returncode, 0)
 
     def test_usage(self):
         for words in ([], ["--help"], ["a", "b", "c"]):

@@ -7,6 +7,7 @@
        CCA_SOCKET                the socket of a role of front.py; or else:
        CCA_FOLDER, CCA_ROLE      the folder of cca.module, and the role of each request
        CCA, CCA_COMMAND          the program, "cca" if not set, and "run" or "audit"
+       CCA_REASONS               "ibm": refusals have IBM's nearest return code and reason, and 8 and 9000 more where none is near
 
    A CCA_FOLDER, and a CCA with a slash in it, that don't begin with one are found from where the first verb is called.
 

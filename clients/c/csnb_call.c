@@ -49,6 +49,7 @@ static void from_environment(void)
 {
     const char *socket = getenv("CCA_SOCKET"), *folder = getenv("CCA_FOLDER"), *role = getenv("CCA_ROLE");
     const char *program = getenv("CCA"), *command = getenv("CCA_COMMAND");
+    reasons_begin();
     if (used)
         return;
     if (socket) {
@@ -213,11 +214,13 @@ void call_came(struct call *it, struct cca_result came)
 
 void call_end(const struct call *it, long *return_code, long *reason_code)
 {
+    long code = it->code, reason = it->reason;
     int cancelling;
+    reasons_tell(&code, &reason);
     if (return_code)
-        *return_code = it->code;
+        *return_code = code;
     if (reason_code)
-        *reason_code = it->reason;
+        *reason_code = reason;
     pthread_setcancelstate(it->cancelling, &cancelling);
 }
 

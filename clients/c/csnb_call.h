@@ -57,6 +57,12 @@ void call_came(struct call *it, struct cca_result came);
 /* Sets the return code and its reason. */
 void call_end(const struct call *it, long *return_code, long *reason_code);
 
+/* Reads from the environment whether reasons are told by IBM's numbers. */
+void reasons_begin(void);
+
+/* What is told for a return code and a reason: the same, or IBM's nearest pair. */
+void reasons_tell(long *code, long *reason);
+
 /* A field of so many bytes without the blanks at its end. */
 void field_text(char *text, const unsigned char *field, size_t size);
 

@@ -1,7 +1,61 @@
-/* Reasons as sentences. */
-#include "csnb.h"
+/* Reasons: as numbers of IBM's, where the environment asks for these, and as sentences. */
+#include "csnb_call.h"
 
-#include <stddef.h>
+#include <stdlib.h>
+#include <string.h>
+
+#define RULES 36
+#define OURS 9000 /* and a reason of ours, where IBM has none that is near */
+
+struct pair {
+    long code, reason;
+};
+
+/* The pair of IBM's that stands nearest to each rule, written down from memory; zeros where none is near. docs/FROM-IBM.md has it too. */
+static const struct pair nearest[1 + RULES] = {
+    {0, 0}, /* there is no rule 0 */
+    {8, 33}, {8, 153}, {8, 90}, {8, 90}, {12, 764}, {8, 32}, {8, 30}, {8, 47}, {8, 63}, /* 1 to 9 */
+    {8, 29}, {8, 49}, {8, 65}, {8, 65}, {8, 39}, {8, 39}, {8, 39}, {8, 39}, {8, 48}, /* 10 to 18 */
+    {8, 39}, {8, 39}, {8, 39}, {8, 39}, {8, 51}, {8, 39}, {8, 708}, {8, 704}, {0, 0}, /* 19 to 27 */
+    {12, 97}, {8, 44}, {0, 0}, {8, 706}, {8, 159}, {0, 0}, {0, 0}, {0, 0}, {0, 0}, /* 28 to 36 */
+};
+
+static int is_ibms; /* whether reasons are told so */
+
+void reasons_begin(void)
+{
+    const char *asked = getenv("CCA_REASONS");
+    is_ibms = asked && strcmp(asked, "ibm") == 0;
+}
+
+void reasons_tell(long *code, long *reason)
+{
+    struct pair found = {8, *reason + OURS};
+    if (!is_ibms || *code != 8)
+        return;
+    if (*reason <= RULES && nearest[*reason].code != 0)
+        found = nearest[*reason];
+    else if (*reason == CSNB_KEYWORD || *reason == CSNB_KEYWORDS)
+        found = nearest[1];
+    else if (*reason == CSNB_LABEL)
+        found = nearest[6];
+    *code = found.code;
+    *reason = found.reason;
+}
+
+/* The sentence of a pair of IBM's: that of its rule, if it is the pair of one alone. Null: it is none. */
+static const char *ibms_reason(long code, long reason)
+{
+    int rule, one = 0;
+    if (code == nearest[1].code && reason == nearest[1].reason)
+        return "a keyword isn't one of this verb here, one is missing, or two exclude each other"; /* rule 1 refuses no verb of csnb.h */
+    for (rule = 1; rule <= RULES; rule++)
+        if (code != 0 && nearest[rule].code == code && nearest[rule].reason == reason)
+            one = one ? -1 : rule;
+    if (one < 0)
+        return "refused: several rules have this reason of IBM's, and without CCA_REASONS it is told which one";
+    return one ? cca_rule(one) : NULL;
+}
 
 static const char *own_reason(long reason)
 {
@@ -32,7 +86,12 @@ static const char *own_reason(long reason)
 
 const char *csnb_reason(long return_code, long reason_code)
 {
-    const char *rule = cca_rule(reason_code > 0 && reason_code < 100 ? (int)reason_code : 0);
+    const char *ibms = is_ibms ? ibms_reason(return_code, reason_code) : NULL, *rule;
+    if (ibms)
+        return ibms;
+    if (return_code == 8 && reason_code > OURS)
+        reason_code -= OURS;
+    rule = cca_rule(reason_code > 0 && reason_code < 100 ? (int)reason_code : 0);
     switch (return_code) {
     case 0:
         return reason_code == CSNB_OLD_KEY ? "done, with a key under the old master key" : "done";
