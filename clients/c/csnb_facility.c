@@ -73,7 +73,10 @@ void SECURITYAPI CSUACFQ(CSNB_FIRST_FOUR, long *rule_array_count, unsigned char 
         status[5] = it.cca->role ? it.cca->role : "";
     }
     if (it.code == 0) {
-        put_elements(rule_array_count, rule_array, question < 2 ? status : card, question < 2 ? sizes[question] : 1, sizes[question]);
+        if (question < 2)
+            put_elements(rule_array_count, rule_array, status, sizes[question], sizes[question]);
+        else
+            put_elements(rule_array_count, rule_array, card, 1, sizes[question]);
         if (verb_data_length)
             *verb_data_length = 0;
     }
@@ -93,37 +96,38 @@ void SECURITYAPI CSUACFV(CSNB_FIRST_FOUR, long *version_data_length, unsigned ch
     call_end(&it, return_code, reason_code);
 }
 
-/* There is one coprocessor, which all threads use. */
-static void take_coprocessor(struct call *it, const long *count, const unsigned char *words, const long *length, const unsigned char *name)
+/* There is one coprocessor, which all threads use: nothing is changed. */
+static void name_coprocessor(CSNB_FIRST_FOUR, const long *count, const unsigned char *words, const long *length,
+                             const unsigned char *name)
 {
     static const char *const kinds[] = {"DEVICE", NULL};
     char text[65] = "";
-    size_t size = call_length(it, length);
-    call_words(it, count, words);
-    call_choose(it, kinds, -1);
+    struct call it;
+    size_t size;
+    call_begin(&it, exit_data_length, exit_data, name != NULL);
+    call_words(&it, count, words);
+    call_choose(&it, kinds, -1);
+    size = call_length(&it, length);
     if (size < 1 || size > 64)
-        call_fault(it, CSNB_LENGTH);
+        call_fault(&it, CSNB_LENGTH);
     else if (name)
         field_text(text, name, size);
     if (strcmp(text, COPROCESSOR) != 0)
-        call_fault(it, CSNB_UNSAYABLE);
-    call_understood(it);
+        call_fault(&it, CSNB_UNSAYABLE);
+    call_understood(&it);
+    call_end(&it, return_code, reason_code);
 }
 
 void SECURITYAPI CSUACRA(CSNB_FIRST_FOUR, long *rule_array_count, unsigned char *rule_array, long *resource_name_length,
                          unsigned char *resource_name)
 {
-    struct call it;
-    call_begin(&it, exit_data_length, exit_data, resource_name != NULL);
-    take_coprocessor(&it, rule_array_count, rule_array, resource_name_length, resource_name);
-    call_end(&it, return_code, reason_code);
+    name_coprocessor(return_code, reason_code, exit_data_length, exit_data, rule_array_count, rule_array, resource_name_length,
+                     resource_name);
 }
 
 void SECURITYAPI CSUACRD(CSNB_FIRST_FOUR, long *rule_array_count, unsigned char *rule_array, long *resource_name_length,
                          unsigned char *resource_name)
 {
-    struct call it;
-    call_begin(&it, exit_data_length, exit_data, resource_name != NULL);
-    take_coprocessor(&it, rule_array_count, rule_array, resource_name_length, resource_name);
-    call_end(&it, return_code, reason_code);
+    name_coprocessor(return_code, reason_code, exit_data_length, exit_data, rule_array_count, rule_array, resource_name_length,
+                     resource_name);
 }

@@ -11,7 +11,8 @@ struct pair {
     long code, reason;
 };
 
-/* The pair of IBM's that stands nearest to each rule, written down from memory; zeros where none is near. docs/FROM-IBM.md has it too. */
+/* The pair of IBM's that stands nearest to each rule, written down from memory, as docs/FROM-IBM.md has it; zeros where none is
+   near. */
 static const struct pair nearest[1 + RULES] = {
     {0, 0}, /* there is no rule 0 */
     {8, 33}, {8, 153}, {8, 90}, {8, 90}, {12, 764}, {8, 32}, {8, 30}, {8, 47}, {8, 63}, /* 1 to 9 */
@@ -47,8 +48,8 @@ void reasons_tell(long *code, long *reason)
 static const char *ibms_reason(long code, long reason)
 {
     int rule, one = 0;
-    if (code == nearest[1].code && reason == nearest[1].reason)
-        return "a keyword isn't one of this verb here, one is missing, or two exclude each other"; /* rule 1 refuses no verb of csnb.h */
+    if (code == nearest[1].code && reason == nearest[1].reason) /* no verb of csnb.h breaks rule 1 */
+        return "a keyword isn't one of this verb here, one is missing, or two exclude each other";
     for (rule = 1; rule <= RULES; rule++)
         if (code != 0 && nearest[rule].code == code && nearest[rule].reason == reason)
             one = one ? -1 : rule;

@@ -104,7 +104,8 @@ int csnb_skeleton(const char *key_type, int key_length, unsigned char token[CCA_
 
 /* ---- IBM's verbs */
 
-/* The keywords of a control vector, and the vector of the key type with them. Where no length is named it is 8, if the type has it. */
+/* The keywords of a control vector, and the vector of the key type with them. Where no length is named it is 8, if the type has
+   it. */
 static void read_vector(struct call *it, const unsigned char *key_type, unsigned char vector[16])
 {
     static const char *const lengths[] = {"SINGLE", "KEYLN8", "DOUBLE", "KEYLN16", "DOUBLE-O", NULL};

@@ -2,11 +2,11 @@
    begins finds them, and each answers that it isn't here. Their other parameters aren't looked at, whichever they are. */
 #include "csnb.h"
 
-#define NOT_HERE(verb)                                      \
+#define NOT_HERE(verb)                                           \
     void SECURITYAPI verb(long *return_code, long *reason_code); \
     void SECURITYAPI verb(long *return_code, long *reason_code)  \
-    {                                                       \
-        not_here(return_code, reason_code);                 \
+    {                                                            \
+        not_here(return_code, reason_code);                      \
     }
 
 static void not_here(long *return_code, long *reason_code)
