@@ -307,6 +307,25 @@ class Ibm(Library):
         self.done(self.cca.role_define("DEFAULT", EVERY & ~0x10000))  # without KRW
         self.assertEqual(csnb("CSNBKTC", *words_of("RTCMK"), names[0]), (8, 4))
 
+    def test_changed_without_a_reply(self):
+        """Where a label's key is changed and one of the requests gets no reply, that is told of it."""
+        before, after = key_token(SINGLE, "DATA").hex(), internal(NEXT, SINGLE, vector("DATA", 8))
+        fake = self.folder / "fake"
+        for replies, status, came in (
+            ([], 10, (12, 1010)),
+            ([before], 10, (12, 1010)),
+            ([before, after], 10, (12, 1010)),
+            ([before, after], 8, (12, 2008)),
+            ([before, before], 8, (0, 0)),  # nothing is written back
+        ):
+            says = "".join(f"read -r line; echo OK token={it}\n" for it in replies)
+            fake.write_text(f"#!/usr/bin/env bash\n{says}read -r line || exit 0\nexit {status}\n")
+            fake.chmod(0o755)
+            it = self.opened(fake)
+            library().csnb_use(ctypes.byref(it.it))
+            self.assertEqual(csnb("CSNBKTC", *words_of("RTCMK"), identifier("A")), came, (replies, status))
+            it.close()
+
     def test_tokens_without_a_key(self):
         """CSNBKTB: the token of each type and length, which CSNBKPI takes as it takes that of csnb_skeleton."""
         unused = [None] * 9
