@@ -347,7 +347,7 @@ class Fronted(Library):
 
     def test_page(self):
         """The commands of docs/LIBRARIES.md, and the example, over a real front."""
-        build, run = re.findall(r"(?m)^    ((?:clients/java|java ).*)$", (TOP / "docs" / "LIBRARIES.md").read_text())
+        build, run = re.findall(r"(?m)^((?:clients/java/build|java -cp) .*)$", (TOP / "docs" / "LIBRARIES.md").read_text())
         self.assertEqual(build, "clients/java/build java")
         subprocess.run([LIBRARIES / "java" / "build", self.folder / "java"], check=True, stdout=subprocess.DEVNULL)
         words = shlex.split(run)
