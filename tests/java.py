@@ -9,16 +9,18 @@ import shutil
 import socket
 import subprocess
 import sys
+import tempfile
 import time
 import unittest
+import unittest.mock
 from pathlib import Path
 
 from tests.edits import CLIENTS, LIBRARIES, Edit, each_is_found
-from tests.formats import chained, code, value
+from tests.formats import as_part, chained, code, external, internal, joined, types, validation, value
 from tests.harness import EXAMPLES, TOP, Case, Fault, limited, scratch
 from tests.python_connected import Peer
-from tests.python_library import DOUBLE, IV, SINGLE, Library, padded
-from cca import Socket
+from tests.python_library import DOUBLE, IV, SINGLE, TRANSPORT, Library, padded
+from cca import Socket, testing
 from cca.lines import request_line
 from cca.rows import ROWS, RULES
 
@@ -339,6 +341,58 @@ class Fronted(Library):
                 "CSNBKRDJ #1 LABEL-DL @NEW": "0 0 1",
             },
         )
+
+    def test_hikm_roles(self):
+        self.hikm(
+            self.default,
+            {
+                "CSUAACIJ #1 DEFINE #8 NEWROLE #4 =0000001f": "0 0 1 8 4",
+                "CSUAACIJ #1 REMOVE #8 NEWROLE #0 null": "0 0 1 8 0",
+                "CSUAACIJ #1 REMOVE #8 NEWROLE #0 null ": "8 30 1 8 0",
+                "CSUAACIJ #1 DEFINE #8 NEWROLE #3 =00001f": "8 107 1 8 3",
+                "CSUAACIJ #1 CHANGE #8 NEWROLE #4 =0000001f": "8 103 1 8 4",
+            },
+        )
+
+    def test_hikm_tokens(self):
+        """Tokens and their parts, by docs/FORMATS.md."""
+        single, mac = types()["DATA"][8], types()["MAC"][16]
+        token, other = internal(testing.MASTER_KEY, SINGLE, single), external(TRANSPORT, SINGLE, single)
+        one, two = bytes(range(1, 17)), bytes(range(101, 117))
+        part, whole = internal(testing.MASTER_KEY, one, as_part(mac)), internal(testing.MASTER_KEY, joined(one, two), mac)
+        empty = bytes([1, 0, 0, 0, 0, 0, 0x40]) + bytes(25) + mac + bytes(12)
+        empty += validation(empty)
+        words = ("DATA", "INTERNAL", "KEY", "CV")
+        told = [f"{it:8}".encode().hex() for it in words]
+        self.hikm(
+            self.default,
+            {
+                f"CSNBKTPJ ={token} _8 #3 _24 _16 null null null _16 null null null _8": f"0 0 {told[0]} 3 {''.join(told[1:])} "
+                f"{token[32:64]} {single.hex()} {token[16:32]}",
+                "CSNBKEXJ DATA @TEST.DATA @TEST.EXPORTER _64": f"0 0 {other}",
+                "CSNBKEXJ MAC @TEST.DATA @TEST.EXPORTER _64": f"8 109 {'00' * 64}",
+                f"CSNBKIMJ MAC ={other} @TEST.IMPORTER _64": f"8 109 {'00' * 64}",
+                f"CSNBKIMJ DATA ={other} @TEST.IMPORTER _64": f"0 0 {token}",
+                f"CSNBKPIJ #1 FIRST ={one.hex()} +{empty.hex()}": f"0 0 1 {part}",
+                f"CSNBKPIJ #1 LAST ={two.hex()} +{part}": f"0 0 1 {whole}",
+                f"CSNBKPIJ #1 FIRST ={one.hex()} +{token}": f"8 105 1 {token}",
+            },
+        )
+
+    def test_hikm_list(self):
+        """The labels of a prefix in a file, as the socket itself lists them."""
+        lists = Path(tempfile.mkdtemp())  # a path that fits into 64 characters, as IBM's does
+        self.addCleanup(shutil.rmtree, lists)
+        with Socket(self.default) as it:
+            labels = [f"{label}\n" for label in it.record_list("TEST.D")]
+        with unittest.mock.patch.dict(os.environ, CSUDESLD=str(lists)):
+            came = driven("Hikms", ["CSNBKRLJ @TEST.D* #0 _64 null", "CSNBKRLJ @TEST.DATA #0 _64 null"], self.default)
+        code, reason, size, path = came[0].split()
+        self.assertEqual((code, reason, came[1]), ("0", "0", f"8 106 0 {'00' * 64}"))
+        path = Path(bytes.fromhex(path)[: int(size)].decode())
+        self.assertEqual((path.parent, path.stat().st_mode & 0o777), (lists, 0o600))
+        self.assertEqual(path.read_text(), "".join(labels))
+        self.hikm(self.default, {"CSNBKRLJ @TEST.D* #0 _64 null": f"8 110 0 {'00' * 64}"})
 
     def module_token(self, label):
         """The token of a label, by the front's other client."""

@@ -1,5 +1,5 @@
 #!/usr/bin/env python3
-"""Makes Requests.java, a method for each form of a request, and Rules.java, from clients/verbs.json.
+"""Makes Requests.java, a method for each form of a request, Rules.java and Types.java from clients/verbs.json.
 
     make_requests.py [--check]
 
@@ -108,10 +108,18 @@ def rules(table: dict[str, Any]) -> Iterator[str]:
     yield from ["        };", "    }", "}"]
 
 
+def types(table: dict[str, Any]) -> Iterator[str]:
+    yield from ["package cca;", "", MADE, "", "import java.util.List;", ""]
+    yield "/** The key types, each with its control vector for a key of 8 bytes, and the left half of that for 16, in hexadecimal digits; or none. */"
+    yield from ["final class Types {", "    private Types() {", "    }", "", "    record Type(String name, String single, String left) {", "    }", ""]
+    rows = [f'            new Type("{it["name"]}", "{it["8"]}", "{it["16"]}")' for it in table["types"]]
+    yield from ["    static final List<Type> ALL = List.of(", ",\n".join(rows) + ");", "}"]
+
+
 def main() -> int:
     table = json.loads((HERE.parent / "verbs.json").read_text())
     wrong = []
-    for name, lines in (("Requests", requests(table)), ("Rules", rules(table))):
+    for name, lines in (("Requests", requests(table)), ("Rules", rules(table)), ("Types", types(table))):
         path, text = HERE / "src" / "cca" / f"{name}.java", "".join(f"{it}\n" for it in lines)
         if path.exists() and path.read_text() == text:
             continue

@@ -10,10 +10,10 @@ import java.util.HexFormat;
 import java.util.Scanner;
 
 /**
- * Calls methods of Hikm by their names: {@code Hikms SOCKET}, and a call a line, as {@code CSNBRNGJ RANDOM 8}, without the first four
- * parameters. A number is {@code #N}, bytes are {@code =HEX}, null is {@code null}, {@code _N} is room for N bytes, and anything else a text,
- * whose words have 8 bytes where {@code ,} divides them, and 64 with {@code @} before it. Each gets a line: return code, reason, and what
- * numbers and bytes are then.
+ * Calls methods of Hikm by their names: {@code Hikms SOCKET}, and a call a line, as {@code CSNBRNGJ RANDOM _8}, without the first four
+ * parameters. A number is {@code #N}, bytes are {@code =HEX}, or {@code +HEX} where they are told afterwards, {@code _N} is room for N
+ * bytes, null is {@code null}, and anything else a text, whose words have 8 bytes where {@code ,} divides them, and 64 with {@code @}
+ * before it. Each gets a line: return code, reason, and what the numbers, rooms and bytes to be told are then.
  */
 public final class Hikms {
     private static final HexFormat HEX = HexFormat.of();
@@ -38,7 +38,7 @@ public final class Hikms {
         }
         StringBuilder told = new StringBuilder();
         for (int at = 0; at < values.length; at++) {
-            if (at < 2 || (at > 3 && (call[at - 3].startsWith("_") || call[at - 3].startsWith("#")))) {
+            if (at < 2 || (at > 3 && "_#+".indexOf(call[at - 3].charAt(0)) >= 0)) {
                 told.append(at == 0 ? "" : " ").append(values[at] instanceof byte[] it ? HEX.formatHex(it) : ((hikmNativeLong) values[at]).getValue());
             }
         }
@@ -52,7 +52,7 @@ public final class Hikms {
         if (word.startsWith("#")) {
             return new hikmNativeLong(Integer.parseInt(word.substring(1)));
         }
-        if (word.startsWith("=")) {
+        if (word.startsWith("=") || word.startsWith("+")) {
             return HEX.parseHex(word.substring(1));
         }
         if (word.startsWith("_")) {

@@ -1,5 +1,6 @@
 package cca;
 
+import java.nio.ByteBuffer;
 import java.util.Arrays;
 
 /**
@@ -35,6 +36,22 @@ public final class Hikm {
         });
     }
 
+    public void CSUAACIJ(hikmNativeLong return_code, hikmNativeLong reason_code, hikmNativeLong exit_data_length, byte[] exit_data,
+            hikmNativeLong rule_array_count, byte[] rule_array, hikmNativeLong verb_data_1_length, byte[] verb_data_1,
+            hikmNativeLong verb_data_2_length, byte[] verb_data_2) {
+        HikmCall call = new HikmCall(cca, exit_data_length).words(rule_array_count, rule_array);
+        String action = call.choose(null, "DEFINE", "REMOVE");
+        byte[] role = call.data(verb_data_1, verb_data_1_length);
+        byte[] points = action != null && action.equals("DEFINE") ? call.data(verb_data_2, verb_data_2_length) : new byte[4];
+        if (role.length != BLOCK || points.length != 4) {
+            call.fault(HikmCall.LENGTH);
+        }
+        String name = HikmCall.text(role, 0, role.length);
+        call.ask(return_code, reason_code, it -> action.equals("DEFINE")
+                ? it.csuaaciDefine(name, ByteBuffer.wrap(points).getInt()).usedOldKey()
+                : it.csuaaciRemove(name).usedOldKey());
+    }
+
     // ---- key storage
 
     public void CSNBKRCJ(hikmNativeLong return_code, hikmNativeLong reason_code, hikmNativeLong exit_data_length, byte[] exit_data,
@@ -50,6 +67,33 @@ public final class Hikm {
         call.choose(null, "LABEL-DL");
         Label label = call.label(key_label);
         call.ask(return_code, reason_code, it -> it.csnbkrd(label.name()).usedOldKey());
+    }
+
+    /** Writes the labels, one a line, into a new file of the folder that the environment variable CSUDESLD names. */
+    public void CSNBKRLJ(hikmNativeLong return_code, hikmNativeLong reason_code, hikmNativeLong exit_data_length, byte[] exit_data,
+            byte[] key_label, hikmNativeLong data_set_name_length, byte[] data_set_name, byte[] security_server_name) {
+        HikmCall call = new HikmCall(cca, exit_data_length, data_set_name_length);
+        call.hasRoom(data_set_name, Token.SIZE);
+        Label label = call.label(key_label);
+        String name = label == null ? "*" : label.name();
+        String folder = System.getenv("CSUDESLD");
+        boolean isOfPrefix = name.indexOf('*') == name.length() - 1; // here a list is that of a prefix
+        if (!isOfPrefix || folder == null) {
+            call.fault(isOfPrefix ? HikmCall.LIST : HikmCall.LABEL);
+        }
+        String prefix = name.substring(0, name.length() - 1);
+        call.ask(return_code, reason_code, it -> {
+            String path = HikmList.write(call, folder, it.recordList(prefix));
+            if (path.isEmpty()) {
+                return false;
+            }
+            data_set_name_length.setValue(path.length());
+            HikmCall.fill(data_set_name, 0, Token.SIZE, path);
+            if (security_server_name != null) {
+                HikmCall.fill(security_server_name, 0, BLOCK, "");
+            }
+            return false;
+        });
     }
 
     public void CSNBKRRJ(hikmNativeLong return_code, hikmNativeLong reason_code, hikmNativeLong exit_data_length, byte[] exit_data,
@@ -84,10 +128,16 @@ public final class Hikm {
         call.hasRoom(target_key_token, Token.SIZE);
         Key key = call.key(source_key_identifier);
         Key exporter = call.key(exporter_key_identifier);
-        if (key_type != null && !HikmCall.text(key_type, 0, BLOCK).equals("TOKEN")) {
-            call.fault(HikmCall.KEY_TYPE); // here the vector of the key says what it is
-        }
-        call.ask(return_code, reason_code, it -> put(it.csnbkex(key, exporter), "token", target_key_token));
+        String type = key_type == null ? "" : HikmCall.text(key_type, 0, BLOCK);
+        call.ask(return_code, reason_code, it -> {
+            Reply reply = it.csnbkex(key, exporter); // the key of a label is known by its token alone
+            if (TokenTypes.isOf(type, reply.token("token").bytes())) {
+                put(reply, "token", target_key_token);
+            } else {
+                call.fault(HikmCall.KEY_TYPE);
+            }
+            return reply.usedOldKey();
+        });
     }
 
     public void CSNBKGNJ(hikmNativeLong return_code, hikmNativeLong reason_code, hikmNativeLong exit_data_length, byte[] exit_data,
@@ -128,10 +178,39 @@ public final class Hikm {
         Token token = call.token(source_key_token);
         Key importer = call.key(importer_key_identifier);
         String target = call.target(target_key_identifier);
-        if (key_type != null && !HikmCall.text(key_type, 0, BLOCK).equals("TOKEN")) {
+        if (key_type != null && token != null && !TokenTypes.isOf(HikmCall.text(key_type, 0, BLOCK), token.bytes())) {
             call.fault(HikmCall.KEY_TYPE);
         }
         call.ask(return_code, reason_code, it -> put(it.csnbkim(token, importer, target), "token", target_key_identifier));
+    }
+
+    public void CSNBKPIJ(hikmNativeLong return_code, hikmNativeLong reason_code, hikmNativeLong exit_data_length, byte[] exit_data,
+            hikmNativeLong rule_array_count, byte[] rule_array, byte[] key_part, byte[] key_identifier) {
+        HikmCall call = new HikmCall(cca, exit_data_length).words(rule_array_count, rule_array);
+        String rule = call.choose(null, "FIRST", "MIDDLE", "LAST");
+        Key key = call.key(key_identifier);
+        String target = key instanceof Label label ? label.name() : null;
+        boolean isFirst = rule != null && rule.equals("FIRST");
+        TokenTypes.Skeleton skeleton = isFirst && target == null && key != null ? TokenTypes.skeleton(key_identifier) : null;
+        if (isFirst && skeleton == null) {
+            call.fault(HikmCall.KEY);
+        }
+        int length = isFirst && skeleton != null ? skeleton.length() : TokenTypes.isSingle(key) ? BLOCK : 2 * BLOCK;
+        byte[] part = call.data(key_part, length);
+        call.ask(return_code, reason_code, it -> put(isFirst ? it.csnbkpiFirst(skeleton.type(), part, null)
+                : nextPart(it, rule, key, part, target), "token", key_identifier));
+    }
+
+    /** A later part. The length of the key under a label isn't known here: a part of the wrong length is refused and changes nothing. */
+    private static Reply nextPart(Coprocessor cca, String rule, Key key, byte[] part, String target) {
+        try {
+            return cca.csnbkpiMiddle(rule, key, part, target);
+        } catch (Refused e) {
+            if (target == null || e.rule() != 32 || !e.field().equals("part") || part.length == BLOCK) {
+                throw e;
+            }
+            return cca.csnbkpiMiddle(rule, key, Arrays.copyOf(part, BLOCK), target);
+        }
     }
 
     public void CSNBKTCJ(hikmNativeLong return_code, hikmNativeLong reason_code, hikmNativeLong exit_data_length, byte[] exit_data,
@@ -142,6 +221,35 @@ public final class Hikm {
         call.ask(return_code, reason_code, it -> {
             put(it.csnbktc(rule, token), "token", key_identifier);
             return false; // it is under the other master key now
+        });
+    }
+
+    public void CSNBKTPJ(hikmNativeLong return_code, hikmNativeLong reason_code, hikmNativeLong exit_data_length, byte[] exit_data,
+            byte[] key_token, byte[] key_type, hikmNativeLong rule_array_count, byte[] rule_array, byte[] key_value,
+            Object reserved_1, hikmNativeLong reserved_2, byte[] reserved_3, byte[] control_vector, byte[] reserved_4,
+            hikmNativeLong reserved_5, byte[] reserved_6, byte[] master_key_verification_pattern) {
+        HikmCall call = new HikmCall(cca, exit_data_length, rule_array_count);
+        Token token = call.token(key_token);
+        call.hasRoom(key_type, BLOCK);
+        call.hasRoom(rule_array, 3 * BLOCK);
+        call.hasRoom(key_value, 2 * BLOCK);
+        call.hasRoom(control_vector, 2 * BLOCK);
+        call.hasRoom(master_key_verification_pattern, BLOCK);
+        if (rule_array_count != null && rule_array_count.getValue() < 3) {
+            call.fault(HikmCall.KEYWORDS);
+        }
+        call.ask(return_code, reason_code, it -> {
+            Reply reply = it.csnbktp(token);
+            HikmCall.fill(key_type, 0, BLOCK, reply.text("class"));
+            HikmCall.fill(rule_array, 0, BLOCK, reply.text("kind").equals("internal") ? "INTERNAL" : "EXTERNAL");
+            HikmCall.fill(rule_array, BLOCK, BLOCK, "KEY");
+            HikmCall.fill(rule_array, 2 * BLOCK, BLOCK, "CV");
+            rule_array_count.setValue(3);
+            System.arraycopy(key_token, 16, key_value, 0, 2 * BLOCK);
+            Arrays.fill(control_vector, 0, 2 * BLOCK, (byte) 0);
+            put(reply, "vector", control_vector);
+            put(reply, "pattern", master_key_verification_pattern);
+            return reply.usedOldKey();
         });
     }
 

@@ -19,6 +19,7 @@ final class HikmCall {
     static final int LENGTH = 107;
     static final int PAD = 108;
     static final int KEY_TYPE = 109;
+    static final int LIST = 110;
     static final int UNSAYABLE = 111;
     private static final int NOT_DONE = 1000;
     private static final int IN_DOUBT = 2000;
