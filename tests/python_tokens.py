@@ -17,7 +17,7 @@ from tests.python_library import DOUBLE, SINGLE, TRANSPORT, Library
 sys.path.insert(0, str(LIBRARIES / "python"))
 from cca import __main__, testing, tokens  # noqa: E402
 
-FAULTS = [Fault('"$CCA" "$@" | sed -u "s/^NO 14/NO 15/"', case="Altered.test_rules", tells="14.*15|15.*14")]
+FAULTS = [Fault('"$CCA" "$@" | sed -u "s/^NO 14/NO 15/"', case="Altered.test_rules", tells="came: +NO 15 token")]
 EDITS = [
     Edit("clients/python/cca/tokens.py", "11: token[4] == 0,", "11: True,", "Altered.test_rules"),
     Edit("clients/python/cca/tokens.py", "token[48:60]", "token[48:59]", "Altered.test_rules"),
