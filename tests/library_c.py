@@ -661,7 +661,7 @@ class Sockets(Library):
                         connection.recv(1 << 16)
                         connection.sendall(b"-- not carried out: the front ends\n")
 
-            front = threading.Thread(target=ends)
+            front = threading.Thread(target=ends, daemon=True)
             front.start()
             cca = Cca("", self.folder / "ending", opened="open_socket")
             for _ in range(2):
