@@ -478,9 +478,9 @@ class Errors(Library):
             self.assertEqual((came.outcome, came.is_in_doubt), (ENDED, 1), reply)
             self.assertEqual((self.fake.it.pid, came.status), (0, 128 + signal.SIGKILL), reply)
         for reply in ("OK value=", "OK value=zz", "OK value=0", "OK value=0011223344", "OK value=" + "00" * 4000, "OK value=0011223"):
-            test = room(64)
+            test = ctypes.create_string_buffer(b"behind.." * 8, 64)
             came = self.replied(reply, lambda: self.fake.key_test(label("A"), test))
-            self.assertEqual((came.outcome, test.raw[4:]), (ENDED, bytes(60)), reply)
+            self.assertEqual((came.outcome, test.raw[4:]), (ENDED, (b"behind.." * 8)[4:]), reply)
         out, length = room(100), ctypes.c_size_t()
         came = self.replied("OK text=" + "41" * 50, lambda: self.fake.encipher(label("A"), IV, "NONE", bytes(8), 8, out, ctypes.byref(length)))
         self.assertEqual((came.outcome, out.raw), (ENDED, bytes(100)))
