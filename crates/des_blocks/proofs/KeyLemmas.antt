@@ -1,18 +1,14 @@
 -- The key schedule: over tables of numbers, in a row, and cut into round keys again.
-use Rattle.std.proofs.Common.{◌≡◌, ℕ, ◌+◌, ◌*◌, ◌<◌, IsTrue, List, [], ◌∷◌, ◌++◌, length, take, drop, map, get_or, true, refl, sym, ap, ◌∙◌, arith, subst}
-use Rattle.std.specs.List.{flat_map, range_with_len}
+use Rattle.std.proofs.Common.{◌≡◌, ℕ, ◌+◌, ◌*◌, ◌<◌, IsTrue, List, [], ◌∷◌, ◌++◌, length, take, drop, get_or, refl, sym, ap, ◌∙◌, arith, subst}
+use Rattle.std.specs.List.{flat_map}
 use Rattle.std.proofs.lemmas.List.{append-nil, length-append, length-take, length-drop, take_all}
-use Rattle.std.proofs.lemmas.List.FromFn.{get_or-map-range_with_len}
-use Rattle.des_blocks.specs.Bits.{bits, pieces}
+use Rattle.des_blocks.specs.Bits.{pieces}
 use Rattle.des_blocks.specs.Des.{places, shifted, key_schedule, round_keys}
 use Rattle.des_blocks.proofs.Numbers.{are_numbers, key_numbers}
-use Rattle.des_blocks.specs.Halves.{spread}
 use Rattle.des_blocks.specs.Schedules.{group_bits, keys_of}
 use Rattle.des_blocks.specs.Tables.{key_choice_1, key_choice_2, shifts}
-use Rattle.des_blocks.specs.declared.key_tables.TheConstants.{CHOICE_1, CHOICE_2, SHIFTED}
 use Rattle.key_cells.specs.declared.schedules.Schedule.{Schedule}
 use Rattle.des_blocks.proofs.BitLemmas.{take-add, drop-add, take-split, get_or-pieces}
-use Rattle.des_blocks.proofs.GatherLemmas.{row_holds, rows_hold, same}
 use Rattle.des_blocks.proofs.GroupLemmas.{group_bits-append}
 use Rattle.des_blocks.proofs.PlaceLemmas.{drop-places, length-places, take-places, places-append, places-places}
 
@@ -22,7 +18,7 @@ pub shifted-places : (n : ℕ) (t xs : List ℕ) → shifted n (places t xs) ≡
 shifted-places n t xs =
     ap (λ ys. ys ++ take n (places t xs)) (drop-places n t xs) ∙ ap (λ ys. places (drop n t) xs ++ ys) (take-places n t xs) ∙ sym (places-append (drop n t) (take n t) xs)
 
-length-shifted : (n : ℕ) (t : List ℕ) → length (shifted n t) ≡ length t
+pub length-shifted : (n : ℕ) (t : List ℕ) → length (shifted n t) ≡ length t
 length-shifted n t = length-append (drop n t) (take n t) ∙ omega (arith, length-drop n t, length-take n t)
 
 -- the schedule of what two tables take is what the tables of the schedule take
@@ -79,43 +75,16 @@ pub pieces-round_keys : (key : List ℕ) → pieces 16 48 (flat_map (λ k. k) (r
 unfolding round_keys
 pieces-round_keys key = pieces-schedule shifts (take 28 (places key_choice_1 key)) (drop 28 (places key_choice_1 key))
 
--- ---- the numbers of one round key
-
--- the numbers of the round key after some shifts
-abbrev pub turned_numbers : ℕ → List ℕ
-turned_numbers by = places key_choice_2 (shifted by (take 28 key_choice_1) ++ shifted by (drop 28 key_choice_1))
-
-numbers-all : map (λ round. turned_numbers (get_or SHIFTED round 0)) (range_with_len 0 16) ≡ pieces 16 48 key_numbers
-unfolding key_numbers key_schedule places pieces
-numbers-all = refl
-
-numbers-at : (round : ℕ) → round < 16 → turned_numbers (get_or SHIFTED round 0) ≡ take 48 (drop (48 * round) key_numbers)
-numbers-at round h =
-    sym (get_or-map-range_with_len (λ n. turned_numbers (get_or SHIFTED n 0)) 0 16 round round [] h (omega arith))
-    ∙ ap (λ xs. get_or xs round []) numbers-all
-    ∙ get_or-pieces 16 48 round key_numbers h
-
 pub length-key_numbers : length key_numbers ≡ 768
 unfolding key_numbers key_schedule places
 length-key_numbers = refl
 
--- the round key of a round, over the halves that permuted choice 1 takes
-pub round-is : (key cs ds out : List ℕ) (round : ℕ) → round < 16 → cs ≡ take 28 (places key_choice_1 key) → ds ≡ drop 28 (places key_choice_1 key)
-    → out ≡ places key_choice_2 (shifted (get_or SHIFTED round 0) cs ++ shifted (get_or SHIFTED round 0) ds)
-    → out ≡ take 48 (drop (48 * round) (places key_numbers key))
-round-is key cs ds out round h p q is =
-    let n = get_or SHIFTED round 0 in
-    let c = take 28 key_choice_1 in
-    let d = drop 28 key_choice_1 in
-    let long : length (shifted n c ++ shifted n d) ≡ 56 = length-append (shifted n c) (shifted n d) ∙ omega (arith, length-shifted n c, length-shifted n d) in
-    let numbers : IsTrue (are_numbers (length (shifted n c ++ shifted n d)) key_choice_2) = subst (λ w. IsTrue (are_numbers w key_choice_2)) (sym long) refl in
-    let left : shifted n cs ≡ places (shifted n c) key = ap (shifted n) (p ∙ take-places 28 key_choice_1 key) ∙ shifted-places n c key in
-    let right : shifted n ds ≡ places (shifted n d) key = ap (shifted n) (q ∙ drop-places 28 key_choice_1 key) ∙ shifted-places n d key in
-    is ∙ ap (λ xs. places key_choice_2 (xs ++ shifted n ds)) left ∙ ap (λ xs. places key_choice_2 (places (shifted n c) key ++ xs)) right
-    ∙ sym (ap (places key_choice_2) (places-append (shifted n c) (shifted n d) key))
-    ∙ places-places key_choice_2 (shifted n c ++ shifted n d) key numbers
-    ∙ ap (λ t. places t key) (numbers-at round h)
-    ∙ sym (ap (take 48) (drop-places (48 * round) key_numbers key) ∙ take-places 48 (drop (48 * round) key_numbers) key)
+-- the round key of a round
+pub key-at_numbers : (key : List ℕ) (round : ℕ) → round < 16 → get_or (round_keys key) round [] ≡ take 48 (drop (48 * round) (places key_numbers key))
+key-at_numbers key round h =
+    sym (ap (λ keys. get_or keys round []) (pieces-round_keys key))
+    ∙ get_or-pieces 16 48 round (flat_map (λ k. k) (round_keys key)) h
+    ∙ ap (λ row. take 48 (drop (48 * round) row)) (round_keys-row key)
 
 -- ---- the round keys in a row
 
@@ -159,13 +128,3 @@ schedule-done out key round e long before =
     let whole : group_bits out.groups ≡ row
     = sym (ap group_bits (take_all (8 * round) out.groups (omega arith))) ∙ before ∙ take_all (48 * round) row (omega arith) in
     ap (pieces 16 48) (whole ∙ sym (round_keys-row key)) ∙ pieces-round_keys key
-
--- ---- the code's tables, by computation of all their entries
-
-pub choice_1-holds : rows_hold (bits 56) (bits 64) key_choice_1 16 4 0 CHOICE_1 ≡ true
-unfolding rows_hold row_holds bits places same
-choice_1-holds = refl
-
-pub choice_2-holds : rows_hold spread (bits 56) key_choice_2 128 7 0 CHOICE_2 ≡ true
-unfolding rows_hold row_holds bits places group_bits same
-choice_2-holds = refl

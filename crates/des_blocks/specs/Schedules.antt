@@ -1,7 +1,8 @@
 -- The round keys that schedules hold.
-use Rattle.std.specs.Prelude.{◌≡◌, ℕ, Bool, true, false, List, [], ◌∷◌, ◌++◌, reverse, slice_index_or}
+use Rattle.std.specs.Prelude.{◌≡◌, ℕ, ◌<◌, Bool, true, false, List, [], ◌∷◌, ◌++◌, reverse, slice_index, slice_index_or}
+use Rattle.std.specs.Int.{w64, to_le_bytes}
 use Rattle.key_cells.specs.declared.schedules.Schedule.{Schedule}
-use Rattle.des_blocks.specs.Bits.{bits, byte_bits, pieces, to_bytes}
+use Rattle.des_blocks.specs.Bits.{bits, byte_bits, pieces, to_bytes, xor}
 use Rattle.des_blocks.specs.Des.{round_keys, encipher, decipher}
 
 -- the low six bits of each group, one group after another
@@ -16,6 +17,21 @@ keys_of schedule = pieces 16 48 (group_bits schedule.groups)
 -- the schedule holds the round keys of this key of 8 bytes
 abbrev pub IsOf : Schedule → List ℕ → Type 0
 IsOf schedule key = keys_of schedule ≡ round_keys (byte_bits key)
+
+-- the 48 bits of a round key in a word, its first group lowest
+abbrev pub key_in : ℕ → List ℕ
+key_in word = group_bits (to_le_bytes w64 word)
+
+-- words hold the sixteen round keys of a key of 64 bits
+abbrev pub AreKeysOf : List ℕ → List ℕ → Type 0
+AreKeysOf words key =
+    (round : ℕ) → round < 16 → key_in (slice_index words round) ≡ slice_index_or (round_keys key) round []
+
+-- round keys XORed with as many others, one by one
+unfoldable pub each_xor : List (List ℕ) → List (List ℕ) → List (List ℕ)
+each_xor [] others = []
+each_xor (key ∷ keys) [] = []
+each_xor (key ∷ keys) (other ∷ others) = xor key other ∷ each_xor keys others
 
 -- schedule n of a list, where it has one
 abbrev pub schedule_at : List Schedule → ℕ → Schedule

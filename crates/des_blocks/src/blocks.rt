@@ -192,10 +192,20 @@ fn encipher_word(keys: &Schedule, block: u64) -> u64
 
 /// A word of 64 bits deciphered by DES.
 #[inline]
-fn decipher_word(keys: &Schedule, block: u64) -> u64
+pub fn decipher_word(keys: &Schedule, block: u64) -> u64
     ensures { bits 64 result ≡ decipher (keys_of keys.now) (bits 64 block) }
 {
     final_block(backward(keys, initial_halves(block)))
+}
+
+/// Two words of 64 bits deciphered by DES.
+#[inline]
+pub fn decipher_two(keys: &Schedule, block: u64, other: u64) -> (u64, u64)
+    ensures first { bits 64 result.0 ≡ decipher (keys_of keys.now) (bits 64 block) }
+    ensures second { bits 64 result.1 ≡ decipher (keys_of keys.now) (bits 64 other) }
+{
+    let (one, other_one) = backward_two(keys, initial_halves(block), initial_halves(other));
+    (final_block(one), final_block(other_one))
 }
 
 /// A block enciphered by DES (FIPS 46-3), under the sixteen round keys that the schedule holds.

@@ -1,10 +1,16 @@
 //! The laws of the ciphers, each the contract of a call that does nothing.
 ghost use Rattle.std.specs.Prelude.{◌≡◌, List, length, ℕ};
 ghost use Rattle.key_cells.specs.declared.schedules.Schedule.{Schedule};
-ghost use Rattle.des_blocks.specs.Bits.{AreBytes};
-ghost use Rattle.des_blocks.specs.Des.{decipher, encipher};
-ghost use Rattle.des_blocks.specs.Schedules.{ded_under, ede_under};
+ghost use Rattle.des_blocks.specs.Bits.{AreBytes, xor};
+ghost use Rattle.des_blocks.specs.Des.{decipher, encipher, round_keys};
+ghost use Rattle.des_blocks.specs.Schedules.{ded_under, each_xor, ede_under};
 ghost use Rattle.des_blocks.specs.TripleDes.{ded, deciphered, ede, enciphered};
+
+/// The key schedule is linear: the round keys of the XOR of two keys are the XOR of their round keys, one by one.
+pub fn key_schedule_is_linear()
+    ensures { (a b : List ℕ) → length a ≡ length b
+        → round_keys (xor a b) ≡ each_xor (round_keys a) (round_keys b) }
+{}
 
 /// Deciphering and enciphering a block of 64 bits undo each other, for every list of round keys.
 pub fn deciphering_undoes_enciphering()

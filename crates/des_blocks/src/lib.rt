@@ -14,9 +14,11 @@ mod table_rows;
 mod words;
 
 pub use blocks::{
-    Halves, decipher_block, ded, ded_two, ded_word, ede, ede_word, encipher_block, encipher_next,
-    final_block, initial_halves,
+    Halves, decipher_block, decipher_two, decipher_word, ded, ded_two, ded_word, ede, ede_word,
+    encipher_block, encipher_next, final_block, initial_halves,
 };
-pub use key_schedule::schedule;
-pub use laws::{deciphering_undoes_enciphering, ded_undoes_ede, ded_undoes_ede_of_bytes};
+pub use key_schedule::{schedule, xor_schedule};
+pub use laws::{
+    deciphering_undoes_enciphering, ded_undoes_ede, ded_undoes_ede_of_bytes, key_schedule_is_linear,
+};
 pub use words::word_at;

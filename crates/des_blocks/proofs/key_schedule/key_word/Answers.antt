@@ -1,6 +1,6 @@
 use Rattle.std.proofs.Common.{◌<◌, lit<, arith, rules}
 use Rattle.key_cells.specs.Secret.{bytes_of}
-use Rattle.des_blocks.proofs.TurnLemmas.{no-bytes, word-more, word-small}
+use Rattle.des_blocks.proofs.KeyWordLemmas.{no-bytes, word-more, word-small}
 use Rattle.des_blocks.proofs.key_schedule.key_word.Goals as goal
 
 pub loop-at-init : goal.loop-at-init
