@@ -19,6 +19,9 @@ use Rattle.des_blocks.proofs.ClearKeyLemmas.{cbc-same, uncbc-same}
 use Rattle.des_blocks.proofs.LawLemmas.{length-crypt}
 use Rattle.des_blocks.proofs.XorLemmas.{byte-xor}
 use Rattle.key_cells.proofs.ByteLemmas.{length-xor}
+use Rattle.des_core.specs.Ciphers.{undone, undone_bytes}
+use Rattle.des_core.specs.declared.ciphers.Cipher.{Cipher}
+use Rattle.des_core.specs.declared.ciphers.Cipher.TheVariants as cipher
 
 -- ---- words and their bytes
 
@@ -41,11 +44,11 @@ pub cipher-word : (cipher : List ℕ → List ℕ) (block : List ℕ) (word chai
 cipher-word cipher block word chain out p is =
     bytes-of out ∙ ap to_bytes (is ∙ ap cipher (sym (byte_bits-to_be_bytes (bit_xor word chain)) ∙ ap byte_bits (bytes-xor word chain ∙ ap (λ xs. xor xs (to_be_bytes w64 chain)) p)))
 
--- a block deciphered and combined with the chain
-pub ded_bytes-word : (keys : List Schedule) (block : List ℕ) (word chain out : ℕ) → to_be_bytes w64 word ≡ block → bits 64 out ≡ ded_under keys (bits 64 word)
-    → to_be_bytes w64 (bit_xor out chain) ≡ xor (ded_bytes keys block) (to_be_bytes w64 chain)
-ded_bytes-word keys block word chain out p is =
-    bytes-xor out chain ∙ ap (λ xs. xor xs (to_be_bytes w64 chain)) (bytes-of out ∙ ap to_bytes (is ∙ ap (ded_under keys) (sym (byte_bits-to_be_bytes word) ∙ ap byte_bits p)))
+-- a block deciphered, by d on bits, and combined with the chain
+pub deciphered-word : (d : List ℕ → List ℕ) (block : List ℕ) (word chain out : ℕ) → to_be_bytes w64 word ≡ block → bits 64 out ≡ d (bits 64 word)
+    → to_be_bytes w64 (bit_xor out chain) ≡ xor (to_bytes (d (byte_bits block))) (to_be_bytes w64 chain)
+deciphered-word d block word chain out p is =
+    bytes-xor out chain ∙ ap (λ xs. xor xs (to_be_bytes w64 chain)) (bytes-of out ∙ ap to_bytes (is ∙ ap d (sym (byte_bits-to_be_bytes word) ∙ ap byte_bits p)))
 
 -- ---- pieces of a text
 
@@ -200,11 +203,16 @@ stepped l old new w before long is size =
       schedules = ap (λ x. (bench_of x).schedules) stays;
     }
 
-pub length-ded_bytes : (keys : List Schedule) (block : List ℕ) → length (ded_bytes keys block) ≡ 8
-unfolding to_bytes ded_under
-length-ded_bytes keys block =
-    let xs = ded_under keys (byte_bits block) in
-    let long : length xs ≡ 64 = length-crypt _ _ in
+length-undone : (c : Cipher) (keys : List Schedule) (block : List ℕ) → length (undone c keys block) ≡ 64
+unfolding ded_under
+length-undone cipher.Des keys block = length-crypt _ _
+length-undone cipher.TripleDes keys block = length-crypt _ _
+
+pub length-undone_bytes : (c : Cipher) (keys : List Schedule) (block : List ℕ) → length (undone_bytes c keys block) ≡ 8
+unfolding to_bytes
+length-undone_bytes c keys block =
+    let xs = undone c keys (byte_bits block) in
+    let long : length xs ≡ 64 = length-undone c keys (byte_bits block) in
     let e : length xs / 8 ≡ 8 = omega (arith, long) in
     length-map (pieces (length xs / 8) 8 xs) number ∙ length-pieces (length xs / 8) 8 xs ∙ e
 
@@ -253,10 +261,10 @@ puts-again l v w text e is = lease-again l v w e ∙ ap (λ x. holding l (with_t
 pub start-bytes : (start : List ℕ) (n : ℕ) → length start ≡ 8 → ((i : ℕ) → get_or start i 0 < 256) → n ≡ from_be_bytes w64 start → to_be_bytes w64 n ≡ start
 start-bytes start n long small is = be_bytes_8 start n long small is
 
-pub length-xor_block : (keys : List Schedule) (block : List ℕ) (chain : List ℕ) → length chain ≡ 8 → length (xor (ded_bytes keys block) chain) ≡ 8
-length-xor_block keys block chain e =
-    let size : length (ded_bytes keys block) ≡ 8 = length-ded_bytes keys block in
-    length-xor (ded_bytes keys block) chain (size ∙ sym e) ∙ size
+pub length-xor_block : (c : Cipher) (keys : List Schedule) (block : List ℕ) (chain : List ℕ) → length chain ≡ 8 → length (xor (undone_bytes c keys block) chain) ≡ 8
+length-xor_block c keys block chain e =
+    let size : length (undone_bytes c keys block) ≡ 8 = length-undone_bytes c keys block in
+    length-xor (undone_bytes c keys block) chain (size ∙ sym e) ∙ size
 
 -- the last block, where it stands alone
 pub last-one : (d : List ℕ → List ℕ) (n k at : ℕ) (text chain new : List ℕ) (out : List (List ℕ)) → k + 1 ≡ n → at ≡ 8 * k → length text ≡ 8 * n

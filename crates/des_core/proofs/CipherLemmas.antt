@@ -5,7 +5,7 @@ use Rattle.std.proofs.lemmas.List.{drop_all, drop_at, drop_more, length-append, 
 use Rattle.std.proofs.lemmas.Bool.Decides.{nat_tests}
 use Rattle.key_cells.specs.declared.schedules.Schedule.{Schedule}
 use Rattle.des_blocks.specs.Bits.{bits, xor}
-use Rattle.des_blocks.specs.Des.{crypt, f, places, rounds}
+use Rattle.des_blocks.specs.Des.{crypt, decipher, f, places, rounds}
 use Rattle.des_blocks.specs.Schedules.{ded_under, keys_of, schedule_at}
 use Rattle.des_blocks.specs.Tables.{final_permutation, initial_permutation}
 use Rattle.des_blocks.proofs.LawLemmas.{initial-final}
@@ -48,6 +48,13 @@ cipher-next keys l r block out p q of is =
     let both : places initial_permutation block ≡ l ++ r = ap (places initial_permutation) of ∙ initial-final (l ++ r) (length-append l r ∙ omega (arith, p, q)) in
     cipher-first keys block out
     (ap (λ xs. rounds keys (take 32 xs) (drop 32 xs)) both ∙ ap (λ xs. rounds keys xs (drop 32 (l ++ r))) (take_at l r 32 p) ∙ ap (rounds keys l) (drop_at l r 32 p) ∙ is)
+
+-- one cipher over the round keys in reverse
+pub one-cipher : (keys : Schedule) (block l0 r0 l1 r1 : List ℕ) → l0 ≡ take 32 (places initial_permutation block) → r0 ≡ drop 32 (places initial_permutation block)
+    → rounds (reverse (keys_of keys)) l0 r0 ≡ r1 ++ l1 → places final_permutation (r1 ++ l1) ≡ decipher (keys_of keys) block
+one-cipher keys block l0 r0 l1 r1 il ir one =
+    let ks = reverse (keys_of keys) in
+    sym (cipher-first ks block (r1 ++ l1) (ap (λ xs. rounds ks xs (drop 32 (places initial_permutation block))) (sym il) ∙ ap (rounds ks l0) (sym ir) ∙ one))
 
 -- three ciphers, the halves of the second one exchanged
 pub three-ciphers : (keys : List Schedule) (block l0 r0 l1 r1 l2 r2 l3 r3 : List ℕ) → l0 ≡ take 32 (places initial_permutation block) → r0 ≡ drop 32 (places initial_permutation block)
@@ -163,12 +170,12 @@ lane-bits e i n ws long same =
     ∙ down n
 
 -- words before and after: turned to lanes, deciphered, and turned back
-pub words-lanes : (keys : List Schedule) (old before after new : List (List ℕ)) → length before ≡ 64 → length after ≡ 64
+pub words-lanes : (d : List ℕ → List ℕ) (old before after new : List (List ℕ)) → length before ≡ 64 → length after ≡ 64
     → ((e r c : ℕ) → e < 2 → r < 64 → c < 64 → bit_of e c (get_or before r []) ≡ bit_of e r (get_or old c []))
-    → ((e i : ℕ) → e < 2 → i < 64 → reverse (lane e i after) ≡ ded_under keys (reverse (lane e i before)))
+    → ((e i : ℕ) → e < 2 → i < 64 → reverse (lane e i after) ≡ d (reverse (lane e i before)))
     → ((e r c : ℕ) → e < 2 → r < 64 → c < 64 → bit_of e c (get_or new r []) ≡ bit_of e r (get_or after c []))
-    → (k e : ℕ) → k < 64 → e < 2 → bits 64 (word e k new) ≡ ded_under keys (bits 64 (word e k old))
-words-lanes keys old before after new long_before long_after turn lanes back k e h l =
+    → (k e : ℕ) → k < 64 → e < 2 → bits 64 (word e k new) ≡ d (bits 64 (word e k old))
+words-lanes d old before after new long_before long_after turn lanes back k e h l =
     sym (lane-bits e k (word e k new) after long_after (λ c hc. sym (back e k c l h hc)))
     ∙ lanes e k l h
-    ∙ ap (ded_under keys) (lane-bits e k (word e k old) before long_before (λ c hc. turn e c k l hc h))
+    ∙ ap d (lane-bits e k (word e k old) before long_before (λ c hc. turn e c k l hc h))

@@ -7,21 +7,22 @@ use borrow.Rule.Slice.PartMut.{put_mid}
 use Rattle.key_cells.specs.declared.schedules.Schedule.{Schedule}
 use Rattle.des_blocks.specs.Bits.{bits, byte_bits, pieces, to_bytes, xor}
 use Rattle.des_blocks.specs.Modes.{blocks, uncbc}
-use Rattle.des_blocks.specs.Schedules.{ded_bytes, ded_under}
 use Rattle.des_blocks.specs.Texts.{put_at, uncbc_text}
 use Rattle.des_blocks.proofs.BitLemmas.{drop-add}
 use Rattle.des_blocks.proofs.ByteLemmas.{byte_bits-to_be_bytes}
 use Rattle.des_core.proofs.ChainLemmas.{bytes-of, length-put, two-more, uncbc-done}
 use Rattle.des_core.specs.Chains.{Hold, part_at, with_part}
+use Rattle.des_core.specs.Ciphers.{undone, undone_bytes}
+use Rattle.des_core.specs.declared.ciphers.Cipher.{Cipher}
 use Rattle.des_core.specs.Lanes.{AreVectors, word}
 use Rattle.key_cells.proofs.ByteLemmas.{length-xor}
 
 -- deciphered words hold the deciphered blocks
-pub hold-deciphered : (keys : List Schedule) (old new : List (List ℕ)) (part : List ℕ) → Hold (λ block. block) old part
-    → ((k e : ℕ) → k < 64 → e < 2 → bits 64 (word e k new) ≡ ded_under keys (bits 64 (word e k old))) → Hold (ded_bytes keys) new part
-hold-deciphered keys old new part holds is k e h l =
+pub hold-deciphered : (c : Cipher) (keys : List Schedule) (old new : List (List ℕ)) (part : List ℕ) → Hold (λ block. block) old part
+    → ((k e : ℕ) → k < 64 → e < 2 → bits 64 (word e k new) ≡ undone c keys (bits 64 (word e k old))) → Hold (undone_bytes c keys) new part
+hold-deciphered c keys old new part holds is k e h l =
     let block = take 8 (drop (16 * k + 8 * e) part) in
-    bytes-of (word e k new) ∙ ap to_bytes (is k e h l ∙ ap (ded_under keys) (sym (byte_bits-to_be_bytes (word e k old)) ∙ ap byte_bits (holds k e h l)))
+    bytes-of (word e k new) ∙ ap to_bytes (is k e h l ∙ ap (undone c keys) (sym (byte_bits-to_be_bytes (word e k old)) ∙ ap byte_bits (holds k e h l)))
 
 -- ---- the words of a text
 
@@ -148,19 +149,19 @@ chaining-done words start chain old part pair e last d holds =
 -- ---- a part of a text
 
 -- what is deciphered in a part of a text
-pub part-deciphered : (keys given : List Schedule) (text first then_text : List ℕ) (at n : ℕ) (old new : List (List ℕ)) (chain part : List ℕ) → n ≡ 1024 → given ≡ keys → first ≡ text → then_text ≡ text
+pub part-deciphered : (c : Cipher) (keys given : List Schedule) (text first then_text : List ℕ) (at n : ℕ) (old new : List (List ℕ)) (chain part : List ℕ) → n ≡ 1024 → given ≡ keys → first ≡ text → then_text ≡ text
     → Hold (λ block. block) old (take n (drop at first))
-    → ((k e : ℕ) → k < 64 → e < 2 → bits 64 (word e k new) ≡ ded_under given (bits 64 (word e k old)))
+    → ((k e : ℕ) → k < 64 → e < 2 → bits 64 (word e k new) ≡ undone c given (bits 64 (word e k old)))
     → ((d : List ℕ → List ℕ) → Hold d new (take n (drop at then_text)) → part ≡ uncbc_text d chain (take n (drop at then_text)))
-    → part ≡ uncbc_text (ded_bytes keys) chain (part_at text at)
-part-deciphered keys given text first then_text at n old new chain part size same p q holds words bytes =
+    → part ≡ uncbc_text (undone_bytes c keys) chain (part_at text at)
+part-deciphered c keys given text first then_text at n old new chain part size same p q holds words bytes =
     let here : take n (drop at first) ≡ part_at text at = ap (λ m. take m (drop at first)) size ∙ ap (λ t. take 1024 (drop at t)) p in
     let later : take n (drop at then_text) ≡ part_at text at = ap (λ m. take m (drop at then_text)) size ∙ ap (λ t. take 1024 (drop at t)) q in
     let Blocks : List ℕ → Type 0 = λ bytes. Hold (λ block. block) old bytes in
-    let Done : List ℕ → Type 0 = λ bytes. Hold (ded_bytes keys) new bytes in
-    let done : Hold (ded_bytes keys) new (part_at text at)
-    = hold-deciphered keys old new (part_at text at) (subst Blocks here holds) (λ k e h l. words k e h l ∙ ap (λ ks. ded_under ks (bits 64 (word e k old))) same) in
-    bytes (ded_bytes keys) (subst Done (sym later) done) ∙ ap (uncbc_text (ded_bytes keys) chain) later
+    let Done : List ℕ → Type 0 = λ bytes. Hold (undone_bytes c keys) new bytes in
+    let done : Hold (undone_bytes c keys) new (part_at text at)
+    = hold-deciphered c keys old new (part_at text at) (subst Blocks here holds) (λ k e h l. words k e h l ∙ ap (λ ks. undone c ks (bits 64 (word e k old))) same) in
+    bytes (undone_bytes c keys) (subst Done (sym later) done) ∙ ap (uncbc_text (undone_bytes c keys) chain) later
 
 -- the text with the part put back
 pub part-put : (text now part out : List ℕ) (at n : ℕ) → n ≡ 1024 → now ≡ text → part ≡ out → put_mid at n now part ≡ with_part text at out

@@ -71,13 +71,27 @@ fill-at text i h =
 
 -- ---- the chain
 
-bytes-of_enciphered : (keys : Schedule) (block : List ℕ) → AreBytes 8 (enciphered_under keys block)
+pub bytes-of_enciphered : (keys : Schedule) (block : List ℕ) → AreBytes 8 (enciphered_under keys block)
 unfolding crypted
 bytes-of_enciphered keys block = crypted-bytes (keys_of keys) block
 
 enciphered-bits : (keys : Schedule) (block : List ℕ) → byte_bits (enciphered_under keys block) ≡ encipher (keys_of keys) (byte_bits block)
 unfolding crypted
 enciphered-bits keys block = crypted-bits (keys_of keys) block
+
+-- the bits of a block that is joined by XOR with the one before it and enciphered
+pub next-bits : (keys : Schedule) (word : ℕ) (before : List ℕ) → AreBytes 8 before
+    → encipher (keys_of keys) (xor (bits 64 word) (byte_bits before)) ≡ byte_bits (enciphered_under keys (xor (to_be_bytes w64 word) before))
+next-bits keys word before bytes =
+    let block = to_be_bytes w64 word in
+    let size : length block ≡ length before = sym bytes.size in
+    sym (enciphered-bits keys (xor block before) ∙ ap (encipher (keys_of keys)) (byte_bits-xor block before size ∙ ap (λ xs. xor xs (byte_bits before)) (byte_bits-to_be_bytes word)))
+
+-- the block that two halves are of, as a word
+pub word-of_halves : (left right out : ℕ) (block : List ℕ) → AreBytes 8 block → AreHalves left right (places initial_permutation (byte_bits block))
+    → ((both : List ℕ) → AreHalves left right both → bits 64 out ≡ places final_permutation both) → to_be_bytes w64 out ≡ block
+word-of_halves left right out block bytes are is =
+    bytes-of out ∙ ap to_bytes (is _ are ∙ final-initial (byte_bits block) (block-length block bytes)) ∙ to_bytes-byte_bits block bytes.each
 
 -- the last block of the chain over the blocks from block i on
 abbrev pub mac_from : (List ℕ → List ℕ) → List ℕ → ℕ → List ℕ → List ℕ
@@ -136,10 +150,8 @@ pub coding-more : (keys : Schedule) (left right next_left next_right word i : �
 coding-more keys left right next_left next_right word i text h is step before =
     let block = to_be_bytes w64 word in
     let last = before.last in
-    let size : length block ≡ length last = sym before.bytes.size in
     let next = enciphered_under keys (xor block last) in
-    let bits_are : encipher (keys_of keys) (xor (bits 64 word) (byte_bits last)) ≡ byte_bits next
-    = sym (enciphered-bits keys (xor block last) ∙ ap (encipher (keys_of keys)) (byte_bits-xor block last size ∙ ap (λ xs. xor xs (byte_bits last)) (byte_bits-to_be_bytes word))) in
+    let bits_are = next-bits keys word last before.bytes in
     record {
       last = next;
       bytes = bytes-of_enciphered keys (xor block last);
@@ -150,8 +162,7 @@ coding-more keys left right next_left next_right word i text h is step before =
 pub coding-done : (e : List ℕ → List ℕ) (left right out i : ℕ) (text : List ℕ) → i ≡ length (fill text) / 8
     → ((both : List ℕ) → AreHalves left right both → bits 64 out ≡ places final_permutation both) → Coding e left right i text → to_be_bytes w64 out ≡ cbc_mac e text
 coding-done e left right out i text h is coding =
-    bytes-of out ∙ ap to_bytes (is _ coding.halves ∙ final-initial (byte_bits coding.last) (block-length coding.last coding.bytes))
-    ∙ to_bytes-byte_bits coding.last coding.bytes.each ∙ mac-done e text coding.last i h coding.value
+    word-of_halves left right out coding.last coding.bytes coding.halves is ∙ mac-done e text coding.last i h coding.value
 
 -- ---- under a key
 

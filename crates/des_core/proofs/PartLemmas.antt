@@ -5,12 +5,13 @@ use Rattle.std.proofs.lemmas.List.{append_assoc, append-nil, drop_at, drop-drop,
 use Rattle.key_cells.specs.declared.schedules.Schedule.{Schedule}
 use Rattle.des_blocks.specs.Bits.{bits, pieces, xor}
 use Rattle.des_core.specs.Chains.{Hold, part_at, with_part}
+use Rattle.des_core.specs.Ciphers.{undone, undone_bytes}
+use Rattle.des_core.specs.declared.ciphers.Cipher.{Cipher}
 use Rattle.des_core.specs.Lanes.{word}
 use Rattle.des_blocks.specs.Modes.{blocks, joined, last_block, uncbc}
-use Rattle.des_blocks.specs.Schedules.{ded_bytes, ded_under}
 use Rattle.des_blocks.specs.Texts.{uncbc_from, uncbc_text}
 use Rattle.des_blocks.proofs.BitLemmas.{length-pieces}
-use Rattle.des_core.proofs.ChainLemmas.{joined-pieces, length-ded_bytes, pieces-append, pieces-take}
+use Rattle.des_core.proofs.ChainLemmas.{joined-pieces, length-undone_bytes, pieces-append, pieces-take}
 use Rattle.des_core.proofs.LaneChainLemmas.{hold-deciphered, part-last}
 use Rattle.key_cells.proofs.ByteLemmas.{length-xor}
 
@@ -131,13 +132,13 @@ filled-front d eight chain end fill size whole =
     ∙ take_at (uncbc_text d chain end) (uncbc_text d (last_block chain (pieces k 8 end)) fill) (length end) out_long
 
 -- what is deciphered of it
-pub end-deciphered : (keys given : List Schedule) (old new : List (List ℕ)) (chain end fill part filled : List ℕ) (n : ℕ) → n ≡ length end → length chain ≡ 8 → length end % 8 ≡ 0 → given ≡ keys → filled ≡ end ++ fill
-    → Hold (λ block. block) old filled → ((k e : ℕ) → k < 64 → e < 2 → bits 64 (word e k new) ≡ ded_under given (bits 64 (word e k old)))
-    → ((d : List ℕ → List ℕ) → Hold d new filled → part ≡ uncbc_text d chain filled) → take n part ≡ uncbc_text (ded_bytes keys) chain end
-end-deciphered keys given old new chain end fill part filled n count size whole same is holds words bytes =
-    let d = ded_bytes keys in
-    let done = hold-deciphered keys old new filled holds (λ k e h l. words k e h l ∙ ap (λ ks. ded_under ks (bits 64 (word e k old))) same) in
-    ap (λ m. take m part) count ∙ ap (take (length end)) (bytes d done ∙ ap (uncbc_text d chain) is) ∙ filled-front d (length-ded_bytes keys) chain end fill size whole
+pub end-deciphered : (c : Cipher) (keys given : List Schedule) (old new : List (List ℕ)) (chain end fill part filled : List ℕ) (n : ℕ) → n ≡ length end → length chain ≡ 8 → length end % 8 ≡ 0 → given ≡ keys → filled ≡ end ++ fill
+    → Hold (λ block. block) old filled → ((k e : ℕ) → k < 64 → e < 2 → bits 64 (word e k new) ≡ undone c given (bits 64 (word e k old)))
+    → ((d : List ℕ → List ℕ) → Hold d new filled → part ≡ uncbc_text d chain filled) → take n part ≡ uncbc_text (undone_bytes c keys) chain end
+end-deciphered c keys given old new chain end fill part filled n count size whole same is holds words bytes =
+    let d = undone_bytes c keys in
+    let done = hold-deciphered c keys old new filled holds (λ k e h l. words k e h l ∙ ap (λ ks. undone c ks (bits 64 (word e k old))) same) in
+    ap (λ m. take m part) count ∙ ap (take (length end)) (bytes d done ∙ ap (uncbc_text d chain) is) ∙ filled-front d (length-undone_bytes c keys) chain end fill size whole
 
 -- the text with it put back
 pub end-put : (text now part out : List ℕ) (at n : ℕ) → n ≡ length now - at → now ≡ text → part ≡ out → put_mid at n now part ≡ take at text ++ out

@@ -1,4 +1,4 @@
-//! Deciphering in a chain (FIPS 81) by triple DES of FIPS 46-3, 128 blocks side by side.
+//! Deciphering in a chain (FIPS 81) by DES and triple DES of FIPS 46-3, 128 blocks side by side.
 
 mod boxes;
 mod chains;

@@ -3,7 +3,13 @@
 //! are in a round, and the nanoseconds of the fastest of many rounds.
 #![tactic(auto)]
 
-use des_core::{cbc_decipher, cbc_encipher, cbc_mac, ded, ede, schedule};
+ghost use Rattle.std.specs.Prelude.{◌≡◌};
+ghost use Rattle.key_cells.specs.Lease.{bench_of};
+
+use des_core::{
+    cbc_decipher, cbc_decipher_single, cbc_encipher, cbc_encipher_single, cbc_mac, ded, ede,
+    schedule,
+};
 use key_cells::{Lease, Schedule, Secret, Workbench};
 use std::time::{Duration, Instant};
 use std::{env, io};
@@ -134,30 +140,69 @@ fn short_texts(start: u64) -> u64 {
         .fold(start, |sum, byte| sum.rotate_left(8) ^ *byte as u64)
 }
 
-/// Measures cipher block chaining and the message authentication code over texts of 4,096 bytes.
-fn measure_text(rt: &HostRuntime) -> io::Result<()> {
-    let mut bench = Workbench::new();
-    let mut lease = Lease::open(&mut bench);
-    *lease.schedules_mut() = example_schedules();
-    let mut fastest = [Duration::MAX, Duration::MAX, Duration::MAX];
+/// An operation over the text of a bench.
+#[derive(Clone, Copy)]
+enum TextOperation {
+    Encipher,
+    Decipher,
+    EncipherSingle,
+    DecipherSingle,
+    Mac,
+}
+
+/// Carries out an operation over a text of 4,096 bytes, and answers the code, if it makes one.
+fn over_text(lease: &mut Lease, operation: TextOperation) -> u64
+    requires { (bench_of lease.now).text.size ≡ 4096 }
+{
+    match operation {
+        TextOperation::Encipher => cbc_encipher(lease, &[7; 8]),
+        TextOperation::Decipher => cbc_decipher(lease, &[9; 8]),
+        TextOperation::EncipherSingle => cbc_encipher_single(lease, &[7; 8]),
+        TextOperation::DecipherSingle => cbc_decipher_single(lease, &[9; 8]),
+        TextOperation::Mac => {
+            return u64::from_be_bytes(cbc_mac(&lease.schedules()[0], lease.text()));
+        }
+    }
+    0
+}
+
+/// Prints the time of the fastest round of an operation over a text of 4,096 bytes.
+fn report_text(
+    rt: &HostRuntime,
+    lease: &mut Lease,
+    name: &str,
+    operation: TextOperation,
+) -> io::Result<()> {
+    let mut fastest = Duration::MAX;
     let mut sum: u64 = 0;
     for _ in 0..ROUNDS {
         lease.set_text_length(4096);
         let start = Instant::now(rt)?;
-        cbc_encipher(&mut lease, &[7; 8]);
-        fastest[0] = fastest[0].min(start.elapsed(rt)?);
-        lease.set_text_length(4096);
-        let start = Instant::now(rt)?;
-        cbc_decipher(&mut lease, &[9; 8]);
-        fastest[1] = fastest[1].min(start.elapsed(rt)?);
-        let start = Instant::now(rt)?;
-        sum ^= u64::from_be_bytes(cbc_mac(&lease.schedules()[0], lease.text()));
-        fastest[2] = fastest[2].min(start.elapsed(rt)?);
+        sum ^= over_text(lease, operation);
+        fastest = fastest.min(start.elapsed(rt)?);
     }
-    let encipher = fastest[0].as_nanos();
-    let decipher = fastest[1].as_nanos();
-    let mac = fastest[2].as_nanos();
-    println!(rt; "encipher 4096 {encipher} {sum}")?;
-    println!(rt; "decipher 4096 {decipher} {sum}")?;
-    println!(rt; "mac 4096 {mac} {sum}")
+    let nanoseconds = fastest.as_nanos();
+    println!(rt; "{name} 4096 {nanoseconds} {sum}")
+}
+
+/// Measures cipher block chaining, by triple DES and by DES, and the message authentication code.
+fn measure_text(rt: &HostRuntime) -> io::Result<()> {
+    let mut bench = Workbench::new();
+    let mut lease = Lease::open(&mut bench);
+    *lease.schedules_mut() = example_schedules();
+    report_text(rt, &mut lease, "encipher", TextOperation::Encipher)?;
+    report_text(rt, &mut lease, "decipher", TextOperation::Decipher)?;
+    report_text(
+        rt,
+        &mut lease,
+        "encipher_single",
+        TextOperation::EncipherSingle,
+    )?;
+    report_text(
+        rt,
+        &mut lease,
+        "decipher_single",
+        TextOperation::DecipherSingle,
+    )?;
+    report_text(rt, &mut lease, "mac", TextOperation::Mac)
 }

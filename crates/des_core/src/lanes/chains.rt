@@ -4,13 +4,14 @@ ghost use Rattle.std.specs.Prelude.{drop, length, replicate, slice_index, take};
 ghost use Rattle.std.specs.Int.{to_be_bytes, w64};
 ghost use Rattle.key_cells.specs.Lease.{bench_of};
 ghost use Rattle.des_blocks.specs.Bits.{xor};
-ghost use Rattle.des_blocks.specs.Schedules.{ded_bytes};
 ghost use Rattle.des_blocks.specs.Texts.{put_at, schedules_in, text_in};
 ghost use Rattle.des_blocks.specs.Texts.{uncbc_from, uncbc_text, with_text_in};
 ghost use Rattle.des_core.specs.Chains.{Hold, part_at, with_part};
+ghost use Rattle.des_core.specs.Ciphers.{undone_bytes};
 ghost use Rattle.des_core.specs.Lanes.{AreVectors};
 
 use super::ciphers::decipher_words;
+use crate::ciphers::Cipher;
 use crate::words::put_word;
 use des_blocks::word_at;
 use key_cells::{Lease, put_front};
@@ -66,19 +67,18 @@ fn put_chained(part: &mut [u8], words: &[u64x2; 64], start: u64) -> u64
     chain
 }
 
-/// Deciphers 128 blocks of the text from a place on, in a chain from a block, in place, by triple
-/// DES under the three schedules, and answers the last one as it was: the chain goes on from it.
-/// All other places and the text's length stay.
-pub(crate) fn decipher_part(lease: &mut Lease, at: usize, chain: u64) -> u64
+/// Deciphers 128 blocks of the text from a place on, in a chain from a block, in place, and answers
+/// the last one as it was: the chain goes on from it. All other places and the text's length stay.
+pub(crate) fn decipher_part(lease: &mut Lease, at: usize, chain: u64, cipher: Cipher) -> u64
     requires { at + 1024 ≤ (bench_of lease.now).text.size }
     ensures block { to_be_bytes w64 result ≡ take 8 (drop (at + 1016) (text_in lease.old)) }
     ensures text { text_in lease.new ≡ with_part (text_in lease.old) at
-        (uncbc_text (ded_bytes (schedules_in lease.old)) (to_be_bytes w64 chain)
+        (uncbc_text (undone_bytes cipher (schedules_in lease.old)) (to_be_bytes w64 chain)
         (part_at (text_in lease.old) at)) }
     ensures stays { lease.new ≡ with_text_in lease.old (text_in lease.new) }
 {
     let mut words = words_of(&lease.text()[at..at + 1024]);
-    decipher_words(lease.schedules(), &mut words);
+    decipher_words(cipher, lease.schedules(), &mut words);
     let text = lease.text_mut();
     put_chained(&mut text[at..at + 1024], &words, chain)
 }
@@ -94,18 +94,18 @@ fn filled(end: &[u8]) -> [u8; 1024]
 }
 
 /// Deciphers the last blocks of the text, 128 at most, from a place on, in a chain from a block, in
-/// place, by triple DES under the three schedules. All other places and the text's length stay.
-pub(crate) fn decipher_end(lease: &mut Lease, at: usize, chain: u64)
+/// place. All other places and the text's length stay.
+pub(crate) fn decipher_end(lease: &mut Lease, at: usize, chain: u64, cipher: Cipher)
     requires place { at ≤ (bench_of lease.now).text.size }
     requires most { (bench_of lease.now).text.size ≤ at + 1024 }
     requires whole { ((bench_of lease.now).text.size - at) % 8 ≡ 0 }
-    ensures text { text_in lease.new ≡ uncbc_from (ded_bytes (schedules_in lease.old))
+    ensures text { text_in lease.new ≡ uncbc_from (undone_bytes cipher (schedules_in lease.old))
         (to_be_bytes w64 chain) at (text_in lease.old) }
     ensures stays { lease.new ≡ with_text_in lease.old (text_in lease.new) }
 {
     let mut part = filled(&lease.text()[at..]);
     let mut words = words_of(&part);
-    decipher_words(lease.schedules(), &mut words);
+    decipher_words(cipher, lease.schedules(), &mut words);
     put_chained(&mut part, &words, chain);
     let text = lease.text_mut();
     let size = text.len() - at;

@@ -1,15 +1,17 @@
-//! Triple DES of FIPS 46-3 over 128 lanes.
+//! DES and triple DES of FIPS 46-3 over 128 lanes.
 ghost use Rattle.std.specs.Prelude.{ℕ, ◌≡◌, ◌+◌, ◌*◌, ◌<◌, [], ◌++◌};
 ghost use Rattle.std.specs.Prelude.{drop, reverse, slice_index_or, take};
 ghost use Rattle.key_cells.specs.declared.schedules.Schedule as declared;
 ghost use Rattle.des_blocks.specs.Bits.{bits};
-ghost use Rattle.des_blocks.specs.Des.{places, rounds};
+ghost use Rattle.des_blocks.specs.Des.{decipher, places, rounds};
 ghost use Rattle.des_blocks.specs.Schedules.{ded_under, keys_of, ordered};
 ghost use Rattle.des_blocks.specs.Tables.{final_permutation, initial_permutation};
+ghost use Rattle.des_core.specs.Ciphers.{undone};
 ghost use Rattle.des_core.specs.Lanes.{AreVectors, lane, word};
 
 use super::rounds::next_half;
 use super::transposition::transpose;
+use crate::ciphers::Cipher;
 use key_cells::Schedule;
 use std::simd::prelude::*;
 
@@ -117,10 +119,24 @@ fn sixteen_rounds(keys: &Schedule, reversed: bool, left: &mut [u64x2; 32], right
     }
 }
 
+/// Deciphering by DES, at each lane.
+#[inline(always)]
+fn des_lanes(keys: &Schedule, words: &mut [u64x2; 64])
+    requires { AreVectors words.old }
+    ensures vectors { AreVectors words.new }
+    ensures lanes { (e i : ℕ) → e < 2 → i < 64
+        → reverse (lane e i words.new) ≡ decipher (keys_of keys.now) (reverse (lane e i words.old)) }
+{
+    let mut left = initial_left(words);
+    let mut right = initial_right(words);
+    sixteen_rounds(keys, true, &mut left, &mut right);
+    *words = final_words(&right, &left);
+}
+
 /// The inverse of triple DES, at each lane. IP and its inverse stand once, since between the
 /// ciphers they undo each other.
 #[inline(always)]
-fn decipher_lanes(keys: &[Schedule; 3], words: &mut [u64x2; 64])
+fn triple_lanes(keys: &[Schedule; 3], words: &mut [u64x2; 64])
     requires { AreVectors words.old }
     ensures vectors { AreVectors words.new }
     ensures lanes { (e i : ℕ) → e < 2 → i < 64
@@ -134,14 +150,28 @@ fn decipher_lanes(keys: &[Schedule; 3], words: &mut [u64x2; 64])
     *words = final_words(&right, &left);
 }
 
-/// 128 words of 64 bits through the inverse of triple DES.
-pub(crate) fn decipher_words(keys: &[Schedule; 3], words: &mut [u64x2; 64])
+/// Deciphering by a cipher, at each lane.
+#[inline(always)]
+fn decipher_lanes(cipher: Cipher, keys: &[Schedule; 3], words: &mut [u64x2; 64])
+    requires { AreVectors words.old }
+    ensures vectors { AreVectors words.new }
+    ensures lanes { (e i : ℕ) → e < 2 → i < 64
+        → reverse (lane e i words.new) ≡ undone cipher keys.now (reverse (lane e i words.old)) }
+{
+    match cipher {
+        Cipher::Des => des_lanes(&keys[0], words),
+        Cipher::TripleDes => triple_lanes(keys, words),
+    }
+}
+
+/// 128 words of 64 bits deciphered.
+pub(crate) fn decipher_words(cipher: Cipher, keys: &[Schedule; 3], words: &mut [u64x2; 64])
     requires { AreVectors words.old }
     ensures vectors { AreVectors words.new }
     ensures words { (k e : ℕ) → k < 64 → e < 2
-        → bits 64 (word e k words.new) ≡ ded_under keys.now (bits 64 (word e k words.old)) }
+        → bits 64 (word e k words.new) ≡ undone cipher keys.now (bits 64 (word e k words.old)) }
 {
     transpose(words);
-    decipher_lanes(keys, words);
+    decipher_lanes(cipher, keys, words);
     transpose(words);
 }

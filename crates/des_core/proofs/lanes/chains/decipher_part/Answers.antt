@@ -3,8 +3,8 @@ use Rattle.std.specs.Int.{to_be_bytes, w64}
 use borrow.Rule.Slice.PartMut.{put_mid, same_len_mid}
 use Rattle.key_cells.specs.Bench.{text_of}
 use Rattle.key_cells.specs.Lease.{bench_of}
-use Rattle.des_blocks.specs.Schedules.{ded_bytes}
 use Rattle.des_blocks.specs.Texts.{uncbc_text, with_text_in}
+use Rattle.des_core.specs.Ciphers.{undone_bytes}
 use Rattle.des_core.proofs.ChainLemmas.{text-kept}
 use Rattle.des_core.specs.Chains.{part_at}
 use Rattle.des_core.proofs.LaneChainLemmas.{part-deciphered, part-last, part-put}
@@ -28,8 +28,8 @@ returns-clause-text c =
     let kept : length part ≡ length (take n (drop at now)) = search rules in
     let long : length (put_mid at n now part) ≡ bench.text.size = same_len_mid at n now part kept ∙ c.text_mut-text.ensures.size in
     text-kept bench.text (put_mid at n now part) long
-    ∙ part-put text now part (uncbc_text (ded_bytes bench.schedules) (to_be_bytes w64 c.args.chain) (part_at text at)) at n size c.text_mut-text.ensures.value
-    (part-deciphered bench.schedules c.schedules.result.now text c.text.result.now now at n c.words_of-words.result c.decipher_words.new.words (to_be_bytes w64 c.args.chain) part size c.schedules.ensures c.text.ensures.value c.text_mut-text.ensures.value
+    ∙ part-put text now part (uncbc_text (undone_bytes c.args.cipher bench.schedules) (to_be_bytes w64 c.args.chain) (part_at text at)) at n size c.text_mut-text.ensures.value
+    (part-deciphered c.args.cipher bench.schedules c.schedules.result.now text c.text.result.now now at n c.words_of-words.result c.decipher_words.new.words (to_be_bytes w64 c.args.chain) part size c.schedules.ensures c.text.ensures.value c.text_mut-text.ensures.value
     c.words_of-words.ensures.words c.decipher_words.ensures.words c.put_chained.ensures.bytes)
 
 pub returns-clause-stays : goal.returns-clause-stays
