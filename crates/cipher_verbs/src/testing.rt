@@ -5,7 +5,8 @@ ghost use Rattle.multi_encipher.specs.Bundles.{ChangesKeyAt};
 ghost use Rattle.verb_rules.specs.Keys.{HasHalves, opened};
 ghost use Rattle.cipher_verbs.specs.CipherTexts.{test_value};
 
-use des_blocks::ede;
+use crate::ciphering::is_single;
+use des_blocks::{ede, encipher_block};
 use key_cells::{KeyPlace, Lease};
 use verb_rules::{Judged, schedule_key};
 
@@ -26,5 +27,9 @@ pub fn key_test(lease: &mut Lease, key: &Judged) -> [u8; 4]
     ensures stays { ChangesKeyAt KeyPlace.Key lease.old lease.new }
 {
     schedule_key(lease, key);
-    front(&ede(lease.schedules(), &[0; 8]))
+    if is_single(key) {
+        front(&encipher_block(&lease.schedules()[0], &[0; 8]))
+    } else {
+        front(&ede(lease.schedules(), &[0; 8]))
+    }
 }

@@ -1,8 +1,11 @@
-//! Known answers of chains under triple DES, of every kind of length, and of the message authentication codes.
+//! Known answers of chains by triple DES and by DES, of every kind of length, and of the message authentication codes.
 ghost use Rattle.std.specs.Prelude.{◌≡◌, ◌≤◌, length};
 ghost use Rattle.key_cells.specs.Lease.{bench_of};
 
-use des_core::{cbc_decipher, cbc_encipher, cbc_mac, schedule, x919_mac};
+use des_core::{
+    cbc_decipher, cbc_decipher_single, cbc_encipher, cbc_encipher_single, cbc_mac, schedule,
+    x919_mac,
+};
 use key_cells::{Lease, Schedule, Secret, Workbench};
 use std::process::Abort;
 
@@ -27,6 +30,20 @@ const LONG_CHAINS: [(usize, u64); 7] = [
     (129, 0x3416_c2a6_30ef_3bf7),
     (165, 0x0c26_9ee6_3f7d_f22f),
     (512, 0xba41_b5af_a223_14a6),
+];
+
+/// The same by DES alone, under the first of these keys, by OpenSSL 3.0 as des-cbc.
+const SINGLE_CHAINS: [(usize, u64); 10] = [
+    (1, 0xd93d_e8af_2b12_16c3),
+    (2, 0xe438_f631_3ac4_233c),
+    (36, 0xd723_918f_ed78_478a),
+    (37, 0xfaa2_7678_c6cf_68aa),
+    (127, 0x6c51_ae8d_fd55_b21f),
+    (128, 0x5888_90ae_c74d_e267),
+    (129, 0xfda9_5f08_9f6f_c0fc),
+    (165, 0x4f6f_3924_caac_98e9),
+    (256, 0xffdb_dabb_696b_81bd),
+    (512, 0x52ed_b69f_cc91_e574),
 ];
 
 /// The text of the example in FIPS 113.
@@ -127,6 +144,31 @@ fn long_chains_hold_both_ways_whole_and_in_two_segments(rt: HostRuntime) {
     for (count, last) in LONG_CHAINS {
         assert!(rt; count <= 512);
         goes_both_ways(&rt, &text[..8 * count], last);
+    }
+}
+
+/// Enciphers a text by DES under the first of three schedules, and deciphers it.
+fn goes_both_ways_alone(rt: &impl Abort, text: &[u8], last: u64)
+    requires { length text.now ≤ 4096 }
+{
+    let mut bench = Workbench::new();
+    let mut lease = Lease::open(&mut bench);
+    put_schedules(&mut lease);
+    put_text(&mut lease, text);
+    assert!(rt; lease.text().len() % 8 == 0);
+    cbc_encipher_single(&mut lease, &START);
+    assert!(rt; lease.text().ends_with(&last.to_be_bytes()));
+    assert!(rt; lease.text().len() % 8 == 0);
+    cbc_decipher_single(&mut lease, &START);
+    assert!(rt; lease.text() == text);
+}
+
+#[test]
+fn chains_by_des_alone_hold_both_ways(rt: HostRuntime) {
+    let text = long_text();
+    for (count, last) in SINGLE_CHAINS {
+        assert!(rt; count <= 512);
+        goes_both_ways_alone(&rt, &text[..8 * count], last);
     }
 }
 

@@ -6,7 +6,7 @@ use Rattle.std.proofs.lemmas.List.{append-nil, take_all, take-append-le, length-
 use Rattle.std.proofs.lemmas.List.Elements.{All-take}
 use Rattle.key_cells.specs.Bytes.{AreBytes}
 use Rattle.cca_vectors.specs.Vectors.{left_of, right_of, length_of}
-use Rattle.des_blocks.specs.Schedules.{AreOf}
+use Rattle.des_blocks.specs.Schedules.{AreOf, IsOf, schedule_at}
 use Rattle.key_cells.specs.declared.schedules.Schedule.{Schedule}
 use Rattle.multi_encipher.specs.declared.halves.Sealed.{Sealed}
 use Rattle.multi_encipher.specs.Bundles.{key_in, with_zeros}
@@ -61,6 +61,10 @@ hold_key schedules vector key place single is is_key placed made =
   where
     held : slice_range place 0 8 ≡ take 8 key → (if single then slice_range place 0 8 else slice_range place 8 16) ≡ right_key key → HoldKey schedules key
     held left right = subst (λ l. AreOf schedules l (right_key key) l) left (subst (λ r. AreOf schedules (slice_range place 0 8) r (slice_range place 0 8)) right made)
+
+-- the first of three schedules that hold a single-length key
+pub single_held : (schedules : List Schedule) (key : List ℕ) → length key ≡ 8 → HoldKey schedules key → IsOf (schedule_at schedules 0) key
+single_held schedules key long hold = subst (IsOf (schedule_at schedules 0)) (take_all 8 key (omega (arith, long))) hold.first
 
 -- the key that stands in 16 bytes
 pub key_in_place : (vector place : List ℕ) → AreBytes 16 place → IsKey vector (key_in vector place)

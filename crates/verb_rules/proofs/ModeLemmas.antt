@@ -1,14 +1,14 @@
--- The cipher of a clear key is triple DES by its halves, and so are its chains.
+-- The cipher of a clear key is triple DES by its halves, and so are its chains; of a single-length key it is DES alone.
 use Rattle.std.proofs.Common.{◌≡◌, ◌⊎◌, ℕ, List, length, take, drop, sym, ap, ◌∙◌, ⊎_elim, inl, inr, arith}
 use Rattle.std.specs.Prelude.{if◌then◌else◌}
 use Rattle.std.proofs.lemmas.Bool.{eq-eqb, ne_eqb}
 use Rattle.std.proofs.lemmas.List.{take_all}
 use Rattle.key_cells.specs.Bytes.{AreBytes}
 use Rattle.cca_vectors.specs.Vectors.{length_of}
-use Rattle.des_blocks.specs.Modes.{e, une}
+use Rattle.des_blocks.specs.Modes.{blocks, e, joined, une}
 use Rattle.des_blocks.specs.Texts.{cbc_text, uncbc_text}
-use Rattle.des_blocks.specs.TripleDes.{ded, ede, enciphered}
-use Rattle.des_blocks.proofs.ClearKeyLemmas.{cbc-double, cbc-single, uncbc-double, uncbc-single}
+use Rattle.des_blocks.specs.TripleDes.{ded, deciphered, ede, enciphered}
+use Rattle.des_blocks.proofs.ClearKeyLemmas.{cbc-double, cbc-same, cbc-single, uncbc-double, uncbc-same, uncbc-single}
 use Rattle.des_blocks.proofs.ValueLemmas.{ede-same}
 use Rattle.multi_encipher.specs.Seals.{IsKey}
 use Rattle.multi_encipher.proofs.SealLaws.{length_of-cases}
@@ -56,3 +56,19 @@ enciphered_chain key start text size =
 pub deciphered_chain : (key start text : List ℕ) → HasKeyLength key → uncbc_text (ded_of key) start text ≡ uncbc_text (une key) start text
 deciphered_chain key start text size =
     by_halves (λ a b c. uncbc_text (ded a b c) start text) key (uncbc_text (une key) start text) size (uncbc-single key start text) (uncbc-double key start text)
+
+-- ---- a single-length key alone
+
+pub e-alone : (key block : List ℕ) → length key ≡ 8 → enciphered key block ≡ e key block
+unfolding e
+e-alone key block single = sym (ap (λ t. if t then enciphered key block else ede (take 8 key) (drop 8 key) (take 8 key) block) (eq-eqb (length key) 8 single))
+
+une-alone : (key block : List ℕ) → length key ≡ 8 → deciphered key block ≡ une key block
+unfolding une
+une-alone key block single = sym (ap (λ t. if t then deciphered key block else ded (take 8 key) (drop 8 key) (take 8 key) block) (eq-eqb (length key) 8 single))
+
+pub enciphered_single : (key start text : List ℕ) → length key ≡ 8 → cbc_text (enciphered key) start text ≡ cbc_text (e key) start text
+enciphered_single key start text single = ap joined (cbc-same (enciphered key) (e key) (λ x. e-alone key x single) start (blocks text))
+
+pub deciphered_single : (key start text : List ℕ) → length key ≡ 8 → uncbc_text (deciphered key) start text ≡ uncbc_text (une key) start text
+deciphered_single key start text single = ap joined (uncbc-same (deciphered key) (une key) (λ x. une-alone key x single) start (blocks text))
