@@ -8,6 +8,7 @@ mod laws;
 mod line_scribe;
 mod lines;
 mod listing;
+mod recording;
 mod running;
 mod scribe;
 
@@ -15,5 +16,6 @@ pub use entries::{line_entry, long_line_entry};
 pub use laws::a_session_with_entries_is_the_session;
 pub use line_scribe::LineScribe;
 pub use listing::{ListFault, list_trail};
+pub use recording::record_line;
 pub use running::serve_audited;
 pub use scribe::Scribe;

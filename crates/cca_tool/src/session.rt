@@ -6,7 +6,7 @@ ghost use Rattle.device_cells.specs.WhereTold.{WhereTold};
 ghost use Rattle.line_service.specs.Lines.{EndsInNewline};
 ghost use Rattle.line_service.specs.Reading.{blank};
 ghost use Rattle.line_service.specs.Sending.{GotReply};
-ghost use Rattle.line_service.specs.Answering.{OnDisks, IsSound, Serves};
+ghost use Rattle.line_service.specs.Answering.{OnDisks, IsSound, Stands, Serves};
 ghost use Rattle.line_service.specs.Devices.{HaveSizes, AreSettled, BothSettled, DamageSpares, DamageTold, DevicesLeft, OpeningLeft, OutsideLeft, TellsFault, Undamaged};
 ghost use Rattle.line_service.specs.Machine.{world};
 ghost use Rattle.line_service.specs.Running.{LineLeaves, LineTaken, SessionLeft, Unmoved, Untouched};
@@ -21,7 +21,9 @@ use cca_roles::Roles;
 use device_cells::{Disk, Entropy, NoMemory, Sink, Source};
 use key_cells::Workbench;
 use key_records::Records;
-use line_service::{Desk, Served, Shown, ShownOutside, Stop, answer_taken, serve, serve_one};
+use line_service::{
+    Desk, LINE_LIMIT, Served, Shown, ShownOutside, Stop, answer_taken, serve, serve_one,
+};
 use std::alloc::Global;
 use std::marker::Model;
 use verb_script::{LineBuffer, LineFault, ReplyBuffer, Taken, read_line};
@@ -270,6 +272,62 @@ impl Session {
         }
     }
 
+    /// Answers a line that is handed in, without its newline, as `answer` does the line that waits. A line that waits goes on
+    /// waiting.
+    ///
+    /// The session was begun, and no call of it has answered a stop since.
+    pub fn answer_line<M: Disk, D: Disk, E: Entropy>(
+        &mut self,
+        line: &[u8],
+        bench: &mut Workbench,
+        module: &mut M,
+        store: &mut D,
+        entropy: &mut E,
+    ) -> Result<(), Stop>
+        requires disks { AreSettled module_size store_size
+            (⟦<(M, D) as Shown>⟧.shown («module».old, store.old)) }
+        requires known { AreKnown self.old.tables (M.medium «module».old) (D.medium store.old) }
+
+        // What the line comes to, from the state for which the disks stand.
+        ensures serves { (s : State) → OnDisks cca s (M.medium «module».old) (D.medium store.old)
+            → Serves cca s (remembers self.new.tables) line.now result self.new.reply
+            (world (M.medium «module».old) (D.medium store.old) (E.left entropy.old))
+            (world (M.medium «module».new) (D.medium store.new) (E.left entropy.new)) }
+        ensures known { OnOk result
+            (AreKnown self.new.tables (M.medium «module».new) (D.medium store.new)) }
+        ensures reading { self.new.reading ≡ self.old.reading }
+        ensures waiting { self.new.waiting ≡ self.old.waiting }
+        // Whatever the disks tell, there is a reply, unless it stopped.
+        ensures answered { OnOk result (EndsInNewline self.new.reply) }
+        ensures unanswered { OnErr result (self.new.reply ≡ []) }
+        // What is left of each device, and why it stopped. Disks that tell their bytes don't turn out damaged.
+        ensures left { DevicesLeft result (⟦<(M, D, E) as Shown>⟧.between
+            («module».old, store.old, entropy.old) («module».new, store.new, entropy.new)) }
+        ensures undamaged { Undamaged cca result
+            (⟦<(M, D) as Shown>⟧.shown («module».old, store.old)) }
+        ensures damaged { DamageSpares result (M.medium «module».old) (M.medium «module».new)
+            store.old store.new entropy.old entropy.new }
+        ensures stops { IfErr result IsDeskStop }
+        ensures bench { bench.new ≡ blank_bench }
+    {
+        bench.wipe();
+        match answer_handed(
+            &mut self.desk,
+            line,
+            &mut self.reply,
+            bench,
+            module,
+            store,
+            entropy,
+        ) {
+            Ok(()) => Ok(()),
+            Err(stop) => {
+                self.reply.clear();
+                Err(stop)
+            }
+        }
+    }
+
     /// After `answer`, the reply to that line, with its newline; after a stop of `answer`, nothing.
     pub fn reply(&self) -> &[u8]
         ensures { result.now ≡ self.now.reply }
@@ -323,4 +381,42 @@ impl Session {
         self.lines.clear();
         self.waiting = None;
     }
+}
+
+// Writes the reply to a line that is handed in, of any length, into the reply buffer.
+fn answer_handed<A: Desk, M: Disk, D: Disk, E: Entropy>(
+    desk: &mut A,
+    line: &[u8],
+    reply: &mut ReplyBuffer,
+    bench: &mut Workbench,
+    module: &mut M,
+    store: &mut D,
+    entropy: &mut E,
+) -> Result<(), Stop>
+    requires disks { AreSettled A.machine.module_size A.machine.store_size
+        (⟦<(M, D) as Shown>⟧.shown («module».old, store.old)) }
+    requires ready { A.ready desk.old (M.medium «module».old) (D.medium store.old) }
+    requires bench { bench.old ≡ blank_bench }
+
+    ensures serves { (s : A.machine.State)
+        → Stands A.machine s (A.knows desk.old) (M.medium «module».old) (D.medium store.old)
+        → Serves A.machine s (A.knows desk.new) line.now result reply.new
+        (world (M.medium «module».old) (D.medium store.old) (E.left entropy.old))
+        (world (M.medium «module».new) (D.medium store.new) (E.left entropy.new)) }
+    ensures ready { OnOk result (A.ready desk.new (M.medium «module».new) (D.medium store.new)) }
+    ensures line { OnOk result (EndsInNewline reply.new) }
+    ensures undamaged { Undamaged A.machine result
+        (⟦<(M, D) as Shown>⟧.shown («module».old, store.old)) }
+    ensures damaged { DamageSpares result (M.medium «module».old) (M.medium «module».new)
+        store.old store.new entropy.old entropy.new }
+    ensures left { DevicesLeft result (⟦<(M, D, E) as Shown>⟧.between
+        («module».old, store.old, entropy.old) («module».new, store.new, entropy.new)) }
+    ensures stops { IfErr result IsDeskStop }
+    ensures bench { bench.new ≡ blank_bench }
+{
+    if line.len() > LINE_LIMIT {
+        desk.too_long(reply);
+        return Ok(());
+    }
+    desk.answer(line, reply, bench, module, store, entropy)
 }

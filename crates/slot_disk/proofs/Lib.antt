@@ -3,3 +3,4 @@ pub mod Lists
 pub mod Logging
 pub mod Overwriting
 pub mod Staging
+mod Anew

@@ -1,5 +1,5 @@
 -- A disk in memory as the calls that it noted: what they left for a read to give, and what a stop may leave of them.
-use Rattle.std.specs.Prelude.{◌≡◌, ℕ, ◌+◌, nat_le, nat_lt, Bool, ◌&&◌, false, List, [], ◌∷◌, ◌++◌, length, slice_index, fold}
+use Rattle.std.specs.Prelude.{⊤, ◌≡◌, ℕ, ◌+◌, nat_le, nat_lt, Bool, ◌&&◌, false, List, [], ◌∷◌, ◌++◌, length, slice_index, fold, replicate}
 use Rattle.std.specs.List.{list_any}
 use Rattle.device_cells.specs.Ranges.{overwrite}
 use Rattle.slot_disk.specs.declared.call.Call.{Call}
@@ -38,3 +38,8 @@ pub record IsTorn (s : Stage) (image : List ℕ) : Type 0 where
   pub size : length image ≡ length s.synced
   pub elsewhere : (k : ℕ) → covers s.unsynced k ≡ false
       → slice_index image k ≡ slice_index s.synced k
+
+-- no byte of the write is left
+abbrev pub IsWiped : Call → Type 0
+IsWiped (Written at bytes) = bytes ≡ replicate (length bytes) 0
+IsWiped Synced = ⊤

@@ -1,7 +1,8 @@
 //! The calls that a disk in memory notes.
-ghost use Rattle.std.specs.Prelude.{◌≡◌, ◌≤◌, length};
+ghost use Rattle.std.specs.Prelude.{◌≡◌, ◌≤◌, All, length, replicate};
 ghost use Rattle.device_cells.specs.Cells.{body_size};
 ghost use Rattle.device_cells.specs.Ranges.{overwrite};
+ghost use Rattle.slot_disk.specs.Stages.{IsWiped};
 
 use device_cells::BODY_LEN;
 use std::marker::Model;
@@ -43,6 +44,12 @@ impl Piece {
     {
         &self.bytes[..self.length]
     }
+
+    fn wipe(&mut self)
+        ensures { self.new ≡ replicate (length self.old) 0 }
+    {
+        self.bytes = [0; BODY_LEN];
+    }
 }
 
 /// A call that a disk in memory notes: a write of these bytes from a place on, or a sync.
@@ -50,6 +57,23 @@ impl Piece {
 pub(crate) enum Call {
     Written(usize, Piece),
     Synced,
+}
+
+fn wipe_call(call: &mut Call)
+    ensures { IsWiped call.new }
+{
+    if let Call::Written(_, piece) = call {
+        piece.wipe();
+    }
+}
+
+/// Wipes the bytes of each call.
+pub(crate) fn wipe_calls(calls: &mut [Call])
+    ensures { All IsWiped calls.new }
+{
+    for call in calls.iter_mut() {
+        wipe_call(call);
+    }
 }
 
 /// Puts the bytes in the place from `at` on, as far as the target goes.

@@ -1,5 +1,5 @@
 //! A disk in memory, which can show what a stop after any of its calls may have left.
-ghost use Rattle.std.specs.Prelude.{◌≡◌, ◌+◌, ◌≤◌, ◌↔◌, length, take, slice_range, IfOk, OnOk, OnErr, IsErr, IsTrue};
+ghost use Rattle.std.specs.Prelude.{◌≡◌, ◌+◌, ◌<◌, ◌≤◌, ◌↔◌, [], length, replicate, take, slice_get, slice_range, None, Some, IfSome, IfOk, OnOk, OnErr, IsErr, IsTrue};
 ghost use Rattle.device_cells.specs.Cells.{body_size};
 ghost use Rattle.slot_disk.specs.DiskState.{blank_image, new_disk, refuses_call, after_noted};
 ghost use Rattle.slot_disk.specs.FaultPlan.{fails_now, after_call, with_failing};
@@ -10,7 +10,7 @@ ghost use Rattle.device_cells.specs.Ranges.{SameOutside, HoldsPiece};
 ghost use Rattle.slot_disk.specs.Stages.{Stage, noting, stage, IsTorn};
 ghost use Rattle.slot_disk.specs.TornImage.{torn_image, torn_over};
 
-use crate::call::{Call, Piece, overwrite_at, overwrite_vec};
+use crate::call::{Call, Piece, overwrite_at, overwrite_vec, wipe_calls};
 use crate::fault_plan::FaultPlan;
 use device_cells::{BODY_LEN, Disk, Failed, NoMemory};
 use std::alloc::Global;
@@ -90,6 +90,49 @@ impl MemoryDisk {
         self.calls.len() as u64
     }
 
+    /// A call that it noted, counted from 0: a write of these bytes from a place on, or a sync, for which there is `None`.
+    pub fn call(&self, number: usize) -> Option<(usize, &[u8])>
+        requires { number < length self.now.calls }
+        ensures sync { result ≡ None → slice_get self.now.calls number ≡ Some Call.Synced }
+        ensures write { IfSome result (λ w.
+            slice_get self.now.calls number ≡ Some (Call.Written w.0 w.1.now)) }
+        ensures short { IfSome result (λ w. length w.1.now ≤ body_size) }
+    {
+        match &self.calls[number] {
+            Call::Written(at, piece) => Some((*at, piece.bytes())),
+            Call::Synced => None,
+        }
+    }
+
+    /// Forgets the calls that it noted, and wipes their bytes: the disk begins anew with what it holds, of which nothing is
+    /// unsynced.
+    pub fn begin_anew(&mut self)
+        ensures disk { self.new ≡ record self.old {
+          first = (stage self.old.first self.old.calls).content;
+          calls = [];
+        } }
+        ensures size { length self.new.first ≡ length self.old.first }
+        ensures settled { IsSettled (medium_of self.new) }
+        ensures content { (medium_of self.new).content ≡ (medium_of self.old).content }
+    {
+        make_calls(&self.calls, &mut self.first);
+        wipe_calls(&mut self.calls);
+        self.calls.clear();
+    }
+
+    /// Zeroes all that it holds, and the bytes of the calls that it noted, which it forgets.
+    pub fn wipe(&mut self)
+        ensures { self.new ≡ record self.old {
+          first = blank_image (length self.old.first);
+          calls = [];
+        } }
+    {
+        zero(&mut self.first);
+        zero(&mut self.content);
+        wipe_calls(&mut self.calls);
+        self.calls.clear();
+    }
+
     /// Makes the read, write or sync of this number fail, counted from 0. It keeps the last eight
     /// numbers.
     pub fn fail_at(&mut self, call: u64)
@@ -126,6 +169,30 @@ impl MemoryDisk {
             &mut image,
         );
         MemoryDisk::from_image(alloc, &image, calls)
+    }
+}
+
+fn zero(bytes: &mut Vec<u8>)
+    ensures { bytes.new.items ≡ replicate (length bytes.old.items) 0 }
+{
+    bytes.fill(0);
+}
+
+// Makes the calls on an image.
+fn make_calls(calls: &[Call], image: &mut Vec<u8>)
+    ensures { image.new.items ≡ (stage image.old.items calls.now).content }
+{
+    for call in calls {
+        make_call(call, image);
+    }
+}
+
+fn make_call(call: &Call, image: &mut Vec<u8>)
+    ensures { (s : Stage) → image.old.items ≡ s.content
+        → image.new.items ≡ (noting s call.now).content }
+{
+    if let Call::Written(at, piece) = call {
+        overwrite_vec(image, *at, piece.bytes());
     }
 }
 
