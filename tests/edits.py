@@ -1,5 +1,5 @@
-"""Faults of the clients in examples/ and of the libraries in clients/: what stands in a file, what it becomes, and the case of a file of
-checks that finds it. The case runs in a process of its own, over a copy of both folders in which the fault stands."""
+"""Faults of the service in service/, of the client in examples/ and of the libraries in clients/: what stands in a file, what it becomes, and the case of a file of
+checks that finds it. The case runs in a process of its own, over a copy of the folders in which the fault stands."""
 import os
 import re
 import shutil
@@ -14,10 +14,15 @@ from tests.harness import EXAMPLES, TOP
 
 CLIENTS = Path(os.environ.get("CLIENTS", EXAMPLES / "clients"))
 LIBRARIES = CLIENTS.parents[1] / "clients"  # the folder clients/, or its copy
+SERVICE = CLIENTS.parents[1] / "service"  # the folder service/, or its copy
+FRONT = SERVICE / "cca-front"
+ASK = SERVICE / "cca_service" / "ask.py"
+PATHS = [str(SERVICE), str(LIBRARIES / "python")]  # where Python finds cca_service, and the library on which it stands
 
 
 class Edit(NamedTuple):
-    """A fault: the file, of examples/clients or `clients/..`, what stands in it, what that becomes, and the case that finds it."""
+    """A fault: the file, what stands in it, what that becomes, and the case that finds it. The file is one of service/cca_service, or
+    named from the top of the checkout, as `clients/..`."""
 
     file: str
     before: str
@@ -51,9 +56,9 @@ def planted(subject, edit):
     """Runs the case of a fault, over a copy of the clients and the libraries that has it."""
     with tempfile.TemporaryDirectory() as name:
         clients = Path(name) / "examples" / "clients"
-        for folder, copy in ((EXAMPLES / "clients", clients), (TOP / "clients", Path(name) / "clients")):
-            shutil.copytree(folder, copy, ignore=shutil.ignore_patterns("__pycache__"))
-        file = (Path(name) if edit.file.startswith("clients/") else clients) / edit.file
+        for folder in (EXAMPLES / "clients", TOP / "clients", TOP / "service"):
+            shutil.copytree(folder, Path(name) / folder.relative_to(TOP), ignore=shutil.ignore_patterns("__pycache__"))
+        file = (Path(name) if "/" in edit.file else Path(name) / "service" / "cca_service") / edit.file
         text = file.read_text()
         if edit.before not in text:
             raise AssertionError(f"{edit.file} hasn't {edit.before}")

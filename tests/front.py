@@ -1,5 +1,6 @@
-"""The front of examples/clients: many clients at once, with bad ones among them, who mix no reply and starve no role; what it refuses
+"""The front of service/: many clients at once, with bad ones among them, who mix no reply and starve no role; what it refuses
 to begin with; its log, and the trail that it fetches. What stands for cca where replies may be mixed up is tests/stub/cca."""
+import hashlib
 import json
 import os
 import re
@@ -16,42 +17,43 @@ import unittest
 from concurrent.futures import ThreadPoolExecutor
 from pathlib import Path
 
-from tests.edits import CLIENTS, Edit, each_is_found
+from tests.edits import FRONT, PATHS, Edit, each_is_found
 from tests.harness import TOP, Case, Fault, limited
 
 STUB = TOP / "tests" / "stub" / "cca"
-sys.path.insert(0, str(CLIENTS))
-import front as front_program  # noqa: E402
-from journal import VERBS  # noqa: E402
-from service import FETCH_AFTER  # noqa: E402
-import trail  # noqa: E402
-from trail import HELD, TrailLog, TrailLost  # noqa: E402
+sys.path[:0] = PATHS
+from cca_service import front as front_program  # noqa: E402
+from cca_service import trail  # noqa: E402
+from cca_service.journal import VERBS  # noqa: E402
+from cca_service.service import FETCH_AFTER  # noqa: E402
+from cca_service.program import Program  # noqa: E402
+from cca_service.trail import HELD, Sent, TrailLog, TrailLost  # noqa: E402
 
 FAULTS = [Fault('"$CCA" "$@" | sed -u "s/^NO 01/NO 02/"', case="Begin.test_the_program_itself", tells="no refusal")]
 ROLES = ("TELLER", "OFFICER", "CUSTODY")
-FETCHES_AT_ONCE = "import front, service, sys; service.FETCH_SECONDS = 0.0; sys.exit(front.main())"
+FETCHES_AT_ONCE = "import sys; from cca_service import front, service; service.FETCH_SECONDS = 0.0; sys.exit(front.main())"
 
 
 EDITS = [
     Edit("connections.py", "it.listen(BACKLOG)", "it.listen(5)", "Crowd.test_backlog"),
-    Edit("front.py", "if len(door.connections) >= self.limit:\n            self.watch", "if False:\n            self.watch", "Crowd.test_idle"),
-    Edit("front.py", "self.watch(door.listener, 0, door)", "pass", "Crowd.test_idle"),
+    Edit("front.py", "if len(door.connections) >= self.limit:\n                return", "if False:\n                return", "Crowd.test_idle"),
+    Edit("front.py", "return self.watch.set(door.listener.fileno(), NOTHING, door)", "return None", "Crowd.test_idle"),
     Edit("front.py", "min(CROWDED, self.idle) if is_crowded", "self.idle if is_crowded", "Crowd.test_idle"),
     Edit("front.py", "connection.unsent = reply", "next(iter(connection.door.connections)).unsent = reply", "Crowd.test_two_hundred"),
     Edit("connections.py", "fcntl.LOCK_EX | fcntl.LOCK_NB", "fcntl.LOCK_SH | fcntl.LOCK_NB", "Begin.test_second_front"),
     Edit("connections.py", "if not stat.S_ISSOCK(", "if False and stat.S_ISSOCK(", "Begin.test_another_file"),
-    Edit("service.py", 'if reply != "NO 01 -":', "if False:", "Begin.test_another_program"),
-    Edit("front.py", "        service.begin()\n", "", "Begin.test_no_program"),
+    Edit("service.py", 'if answers.replies != ["NO 01 -"]:', "if False:", "Begin.test_another_program"),
+    Edit("front.py", "        service.begin()\n", "", "Begin.test_another_program"),
     Edit("connections.py", "            del self.taken[LONGEST + 1 :]", "            return len(self.taken) <= LONGEST", "Lines.test_too_long"),
-    Edit("front.py", 'f"{verb} role={connection.door.role}{space}{fields}"', 'line', "Lines.test_role"),
-    Edit("journal.py", 'verb not in VERBS or', "", "Log.test_no_secrets"),
+    Edit("batches.py", 'b"%b role=%b%b%b\\n" % (verb, self.connection.door.name, space, fields)', 'self.text + b"\\n"', "Lines.test_role"),
+    Edit("journal.py", 'KNOWN.get(line.partition(b" ")[0])', 'line.partition(b" ")[0].decode("latin-1")', "Log.test_no_secrets"),
     Edit("journal.py", " CSNBPEX CSNBRNG", " CSNBPEX", "Known.test_verbs"),
     Edit("journal.py", '(reply or "").startswith(("NO 01", "NO 02"))', "False", "Log.test_no_secrets"),
-    Edit("service.py", "if len(self.times) >= FETCH_AFTER:", "if False:", "Trail.test_fetched_in_time"),
+    Edit("service.py", "if self.sent and len(self.sent) + count > FETCH_AFTER:", "if False:", "Trail.test_fetched_in_time"),
     Edit("front.py", "is_silent = not connection.receive_last()", "is_silent = True", "Crowd.test_busy"),
     Edit("front.py", "is_silent = not connection.send() or bool(connection.unsent)", "is_silent = False", "Crowd.test_unread"),
     Edit("service.py", "            self.fetch()\n            self.hold_files()", "            self.fetch()", "TrailOfTheProgram.test_files_are_held"),
-    Edit("service.py", "        self.fetch(is_in_doubt)\n        self.hold_files()", "        self.fetch(is_in_doubt)", "Crowd.test_no_reply"),
+    Edit("service.py", "        self.fetch(doubts)\n        self.hold_files()", "        self.fetch(doubts)", "Crowd.test_no_reply"),
     Edit("clients/python/cca/client.py", "if end.status != IN_USE or time.monotonic() > until:", "if True:", "Trail.test_files_in_use"),
     Edit("service.py", "if status in LOOK_FIRST and status != IN_USE:", "if status in LOOK_FIRST:", "Trail.test_files_in_use_at_the_end"),
     Edit("clients/python/cca/client.py", "if end.status != IN_USE or time.monotonic() > until:", "if end.status != IN_USE:", "Trail.test_files_in_use_for_long"),
@@ -110,7 +112,7 @@ class Fronted(Case):
 
     def words(self, *options, keys="keys", sockets=ROLES, code=None, is_new=True):
         named = [f"{self.folder / name}={name}" for name in sockets] + ["--new"] * is_new
-        front = ["-c", code] if code else [str(CLIENTS / "front.py")]
+        front = ["-c", code] if code else [str(FRONT)]
         return [sys.executable, "-B", *front, str(self.folder / keys), *named, *options]
 
     def begin(self, *options, log=None, **named):
@@ -118,7 +120,7 @@ class Fronted(Case):
         self.log = log or self.folder / "front.log"
         self.log.unlink(missing_ok=True)
         with open(self.folder / "front.log", "ab") as errors:
-            environment = {**os.environ, "CCA": self.stands, "PYTHONPATH": str(CLIENTS)}
+            environment = {**os.environ, "CCA": self.stands, "PYTHONPATH": ":".join(PATHS)}
             it = subprocess.Popen(self.words(*options, **named), env=environment, stderr=errors)
         self.addCleanup(it.wait)
         self.addCleanup(it.kill)
@@ -130,7 +132,7 @@ class Fronted(Case):
 
     def refuses(self, tells, *options, program=None, **named):
         """A front that must not begin, and say why."""
-        environment = {**os.environ, "CCA": str(program or self.stands), "PYTHONPATH": str(CLIENTS)}
+        environment = {**os.environ, "CCA": str(program or self.stands), "PYTHONPATH": ":".join(PATHS)}
         it = subprocess.run(self.words(*options, **named), env=environment, stderr=subprocess.PIPE, text=True, timeout=60)
         self.assertEqual(it.returncode, 1, it.stderr)
         self.assertIn(tells, json.loads(it.stderr.splitlines()[-1])["text"])
@@ -340,7 +342,7 @@ class Begin(Fronted):
 
     def test_ignored_signal(self):
         """Whoever starts the front may ignore the ends of its children: it sees the exit status of cca all the same."""
-        ignored = "import front, signal, sys; signal.signal(signal.SIGCHLD, signal.SIG_IGN); sys.exit(front.main())"
+        ignored = "import signal, sys; from cca_service import front; signal.signal(signal.SIGCHLD, signal.SIG_IGN); sys.exit(front.main())"
         front = self.begin(code=ignored)
         self.assertEqual(asked(self.folder / "TELLER", "A stub=ends7 K"), [""])
         self.assertEqual(front.wait(30), front_program.Status.LOOK)
@@ -395,7 +397,7 @@ class Log(Fronted):
         wanted = [("CSNBKYT", "PAY.DATA", "00"), ("CSNBENC", "-", "00"), ("-", "-", "01"), ("CSNBKYT", "-", "-")]
         self.assertEqual([(it["verb"], it["label"], it["rule"]) for it in lines], wanted)
         for it in lines:
-            self.assertEqual(set(it), {"time", "uid", "role", "verb", "label", "rule", "microseconds"})
+            self.assertEqual(set(it), {"time", "request", "uid", "role", "verb", "label", "rule", "microseconds"})
             self.assertEqual((it["uid"], it["role"]), (os.getuid(), "TELLER"))
             self.assertRegex(it["time"], r"^\d{4}-\d\d-\d\dT\d\d:\d\d:\d\d\.\d{6}Z$")
 
@@ -428,8 +430,13 @@ class Known(unittest.TestCase):
         self.assertEqual(VERBS, {it["verb"] for it in rows})
 
 
-class Told(unittest.TestCase):
-    """What the trail's log tells of a trail; a script prints what `cca trail` would."""
+def requests(times):
+    """Requests that the front sent at these times, by users and with numbers of their own."""
+    return [Sent(time, 1000 + place, 7000 + place) for place, time in enumerate(times)]
+
+
+class Logged(unittest.TestCase):
+    """The log of a trail; a script prints what `cca trail` would."""
 
     def setUp(self):
         folder = tempfile.TemporaryDirectory()
@@ -439,6 +446,12 @@ class Told(unittest.TestCase):
         self.program.write_text("#!/bin/sh\ncat held\n")
         self.program.chmod(0o755)
 
+    def logged(self):
+        """The log, as a front that begins has it."""
+        program = Program(str(self.program), None)
+        self.addCleanup(program.close)
+        return TrailLog(str(self.log), str(self.folder), program)
+
     def hold(self, first, last, label="PAY"):
         """Makes a trail of these records."""
         held = [f"{number} 00 TELLER CSNBKYT {label}" for number in range(first, last)]
@@ -447,13 +460,17 @@ class Told(unittest.TestCase):
     def fetch(self, first, last, times=(), label="PAY", **options):
         """Fetches a trail of these records, as by a front that has just begun."""
         self.hold(first, last, label)
-        return TrailLog(str(self.log), str(self.folder), str(self.program)).fetch(list(times), **options)
+        return self.logged().fetch(requests(times), **options)
 
     def lines(self):
         return [json.loads(line) for line in self.log.read_text().splitlines()]
 
     def numbers(self):
         return [it["number"] for it in self.lines() if "number" in it]
+
+
+class Told(Logged):
+    """What the trail's log tells of a trail."""
 
     def test_overlap(self):
         self.assertEqual([self.fetch(0, 3, "ABC"), self.fetch(0, 5, "DE"), self.fetch(4, 9, "FGHI")], [[], [], []])
@@ -526,13 +543,13 @@ class Told(unittest.TestCase):
     def test_begins_anew_in_a_run(self):
         """The same for one front, whose log is renamed meanwhile."""
         self.hold(0, 5)
-        log = TrailLog(str(self.log), str(self.folder), str(self.program))
-        self.assertEqual(log.fetch(list("ABCDE")), [])
+        log = self.logged()
+        self.assertEqual(log.fetch(requests("ABCDE")), [])
         self.log.rename(self.folder / "log.1")
         self.hold(0, 0)
         self.assertEqual(log.fetch([]), ["the trail begins anew: it ended with number 4"])
         self.hold(0, 7)
-        self.assertEqual(log.fetch(list("ABCDEFG")), [])
+        self.assertEqual(log.fetch(requests("ABCDEFG")), [])
         self.assertEqual(self.numbers(), [*range(7)])
 
     def test_others(self):
@@ -547,18 +564,19 @@ class Told(unittest.TestCase):
     def test_times(self):
         self.fetch(0, 2, ["A", "B"])
         self.assertEqual([it["time"] for it in self.lines()], ["A", "B"])
-        self.assertEqual(self.fetch(0, 4, ["C", "D", "E"], is_in_doubt=True), [])
+        self.assertEqual(self.fetch(0, 4, ["C", "D", "E"], doubts=1), [])
         self.assertRegex(" ".join(self.fetch(0, 5, ["F", "G"])), "2 requests were served, and 1 new records came")
         self.assertEqual([it["time"] for it in self.lines() if "number" in it], ["A", "B", "C", "D", None])
 
     def test_renamed(self):
         """A log that is renamed is followed by one that says so."""
         self.fetch(0, 3)
-        log = TrailLog(str(self.log), str(self.folder), str(self.program))
+        log = self.logged()
         self.log.rename(self.folder / "log.1")
         self.hold(0, 4)
-        self.assertEqual(log.fetch(["A"]), [])
-        self.assertEqual(self.lines()[0], {"follows": 2})
+        self.assertEqual(log.fetch(requests("A")), [])
+        before = (self.folder / "log.1").read_bytes().splitlines()[-1]
+        self.assertEqual(self.lines()[0], {"follows": 2, "chain": hashlib.sha256(before).hexdigest()})
         self.assertEqual(self.numbers(), [3])
 
     def test_half_a_line(self):
@@ -620,7 +638,7 @@ class Trail(Fronted):
     def test_fetched_in_time(self):
         """The trail is fetched after so many requests, here 50 in place of half of what it holds: each has its record, with its time."""
         self.assertLess(FETCH_AFTER, HELD)
-        it = self.begin("--audit", str(self.kept), code="import front, service, sys; service.FETCH_AFTER = 50; sys.exit(front.main())")
+        it = self.begin("--audit", str(self.kept), code="import sys; from cca_service import front, service; service.FETCH_AFTER = 50; sys.exit(front.main())")
         with ThreadPoolExecutor(2) as clients:
             came = list(clients.map(self.ask_many, (120, 90), ("TELLER", "OFFICER")))
         self.assertEqual([len(replies) for replies in came], [1, 1])
@@ -700,7 +718,7 @@ class Trail(Fronted):
     def test_files_in_use_for_long(self):
         """The same for longer than the front tries."""
         self.in_use("$1 = run")
-        self.refuses("status 11", code="import front, client, sys; client.IN_USE_SECONDS = 0.3; sys.exit(front.main())")
+        self.refuses("status 11", code="import sys; from cca import client; from cca_service import front; client.IN_USE_SECONDS = 0.3; sys.exit(front.main())")
 
     def test_front_killed(self):
         """What a front that is killed hasn't fetched the next one does, without the times, and tells so."""

@@ -1,4 +1,4 @@
-"""The front of examples/clients, and clients who keep its places, or are in doubt: slow ones, many of one user, those who ask while it
+"""The front of service/, and clients who keep its places, or are in doubt: slow ones, many of one user, those who ask while it
 ends; cca that ends while nobody asks; signals; the check of its health; its settings and its unit."""
 import errno
 import json
@@ -17,21 +17,21 @@ import unittest
 from concurrent.futures import ThreadPoolExecutor
 from pathlib import Path
 
-from tests.edits import CLIENTS, Edit, each_is_found
+from tests.edits import ASK, FRONT, SERVICE, Edit, each_is_found
 from tests.front import ROLES, Fronted, asked, children_of, connected, files_of, front_program
 from tests.harness import Case, Fault, limited
 from tests.keys import ONE_KEY
 
-from connections import NOT_CARRIED_OUT, Connection, Door  # noqa: E402
-from journal import Journal  # noqa: E402
-from prepare import MODE  # noqa: E402
-from service import Service  # noqa: E402
-from settings import DoorSettings, Settings  # noqa: E402
+from cca_service.connections import NOT_CARRIED_OUT, Connection, Door  # noqa: E402
+from cca_service.journal import Journal  # noqa: E402
+from cca_service.prepare import MODE  # noqa: E402
+from cca_service.service import Service  # noqa: E402
+from cca_service.settings import DoorSettings, Settings  # noqa: E402
 
 FAULTS = [Fault('"$CCA" "$@" | sed -u "s/^OK value=/OK other=/"', case="Health.test_key", tells="OK other=")]
 TOLD = NOT_CARRIED_OUT.decode()
-UNIT = CLIENTS / "cca-front.service"
-QUICKLY = "import front, sys; front.CROWDED = 0.5; sys.exit(front.main())"
+UNIT = SERVICE / "cca-front.service"
+QUICKLY = "import sys; from cca_service import front; front.CROWDED = 0.5; sys.exit(front.main())"
 
 EDITS = [
     Edit("front.py", "if not connection.unsent and (was_sending or connection.has_line()):", "if True:", "Slow.test_bytes"),
@@ -42,21 +42,20 @@ EDITS = [
     Edit("connections.py", "self.turned_away.discard(connection.uid)", "pass", "Users.test_turned_away"),
     Edit("connections.py", "        self.socket.shutdown(socket.SHUT_RD)\n        while not", "        while not", "Last.test_line"),
     Edit("connections.py", "while not self.has_line() and self.receive():", "while False:", "Last.test_line"),
-    Edit("front.py", "self.selector.register(self.watched[1], selectors.EVENT_READ, self.service)", "pass", "Ends.test_killed"),
-    Edit("service.py", "if end.in_doubt or end.status in LOOK_FIRST:", "if True:", "Ends.test_asked_again"),
+    Edit("front.py", "self.watch.set(self.watched[1], READ, self.service)", "pass", "Ends.test_killed"),
+    Edit("service.py", "if end.in_doubt or end.replies or end.status in LOOK_FIRST:", "if True:", "Ends.test_asked_again"),
     Edit("service.py", "raise Stop(str(end)) if end.status == IN_USE else Look(str(end))", "raise Stop(str(end))", "Ends.test_look"),
     Edit("service.py", "self.cca.began + LIVED - time.monotonic()", "0.0", "Ends.test_again_and_again"),
     Edit("service.py", "if end.status == IN_USE and self.is_patient():", "if False:", "Ends.test_files_in_use"),
     Edit("service.py", "return time.monotonic() < self.in_use_until", "return True", "Ends.test_files_in_use_for_long"),
     Edit("front.py", "signal.SIGINT, signal.SIGHUP):", "signal.SIGINT):", "Signals.test_log"),
-    Edit("front.py", "self.journal.open_anew()", "pass", "Signals.test_log"),
+    Edit("front.py", "            self.journal.open_anew()\n            self.is_reload", "            self.is_reload", "Signals.test_log"),
     Edit("journal.py", "os.O_CLOEXEC | os.O_NONBLOCK | os.O_NOCTTY, 0o600", "os.O_CLOEXEC, 0o644", "Signals.test_log"),
     Edit("journal.py", "        except OSError as error:\n            self.tell(event", "        except ValueError as error:\n            self.tell(event", "Signals.test_no_log"),
-    Edit("front.py", "if door.ready and not self.is_ending:", "if door.ready:", "Signals.test_end"),
-    Edit("front.py", "            while connection := door.accept():\n                door.add(connection)\n", "", "Signals.test_end"),
+    Edit("front.py", "if not self.is_ending and not self.is_held():", "if not self.is_held():", "Signals.test_end"),
     Edit("front.py", 'it.tell_last("the front has ended")', "pass", "Signals.test_end"),
     Edit("connections.py", "        self.listener.shutdown(socket.SHUT_RD)\n", "", "Last.test_door"),
-    Edit("front.py", "            if reply is None:\n                self.leave(connection)", "            pass", "Signals.test_look_in_the_midst"),
+    Edit("front.py", "            if reply is None:\n                self.leave(connection)\n", "            if reply is None:\n", "Signals.test_look_in_the_midst"),
     Edit("front.py", "            front.end()\n", "            pass\n", "Signals.test_look_in_the_midst"),
     Edit("service.py", "if not self.is_new and not os.path.exists", "if False and not os.path.exists", "Begins.test_no_files"),
     Edit("front.py", "if value is not None})", "if value is not None and not given.config})", "Begins.test_settings"),
@@ -294,7 +293,8 @@ class Ends(Fronted):
             child = next(children_of(os.getpid()))
             os.kill(child, signal.SIGKILL)
             os.waitid(os.P_PID, child, os.WEXITED | os.WNOWAIT)
-            self.assertEqual(service.ask(f"A role=TELLER K{turn}"), f"OK value=role=TELLER,K{turn}")
+            answers = service.ask_all([b"A role=TELLER K%d\n" % turn], [0])
+            self.assertEqual((answers.replies, answers.end), ([f"OK value=role=TELLER,K{turn}"], None))
 
     def test_look(self):
         """After an end that asks for a look nothing is started, and the front ends so that nothing starts it again."""
@@ -333,7 +333,7 @@ class Ends(Fronted):
     def test_files_in_use_for_long(self):
         """It doesn't: the front ends as it does where it begins so, and may be started again."""
         self.stand('test $n -ge 2 && exit 11\nexec "$STUB" "$@"')
-        front = self.begin(code="import front, service, sys; service.IN_USE_SECONDS = 0.5; sys.exit(front.main())")
+        front = self.begin(code="import sys; from cca_service import front, service; service.IN_USE_SECONDS = 0.5; sys.exit(front.main())")
         os.kill(next(children_of(front.pid)), signal.SIGKILL)
         self.assertEqual(front.wait(60), front_program.Status.FAILED)
         self.assertIn("status 11", self.told()[-1]["text"])
@@ -409,8 +409,8 @@ class Signals(Fronted):
         first.sendall(b"A stub=waits1000 FIRST\n")
         self.carries(b"FIRST")
         slow.sendall(b"A stub=waits2000 SLOW\n")
-        early.sendall(b"A KNOTDONE\n")  # its turn would be behind that one
         self.carries(b"SLOW")
+        early.sendall(b"A KNOTDONE\n")
         late = connected(self.folder / "OFFICER")
         for it in (waits, late):
             it.sendall(b"A KNOTDONE\n")
@@ -517,7 +517,7 @@ class Begins(Fronted):
         path, kept = self.folder / "front.conf", self.folder / "kept.log"
         text = f"[front]\nfolder = {self.folder}/keys\nlog = {kept}\nprogram = {self.stands}\nlimit = 7\nuser-limit = 2\n"
         path.write_text(text + "".join(f"[role {role}]\ngroup = tellers\nsocket = {self.folder}/{role}\n" for role in ROLES))
-        words = [sys.executable, "-B", str(CLIENTS / "front.py"), "--config", str(path), "--new"]
+        words = [sys.executable, "-B", str(FRONT), "--config", str(path), "--new"]
         environment = {name: value for name, value in os.environ.items() if name != "CCA"}
         for more, held in ((), 2), (("--user-limit", "3"), 3):
             with self.subTest(more):
@@ -539,7 +539,7 @@ class Begins(Fronted):
         it = subprocess.run(words, env=environment, capture_output=True, text=True)
         self.assertEqual(it.returncode, front_program.Status.USAGE)
         self.assertIn("role teller", it.stderr)
-        it = subprocess.run([sys.executable, "-B", str(CLIENTS / "front.py"), "keys"], capture_output=True, text=True)
+        it = subprocess.run([sys.executable, "-B", str(FRONT), "keys"], capture_output=True, text=True)
         self.assertEqual(it.returncode, front_program.Status.USAGE)
 
 
@@ -554,7 +554,7 @@ class Health(Fronted):
     def health(self, *words, role="TELLER"):
         """What the check comes to: its exit status, what it printed, and how long it took."""
         began = time.monotonic()
-        words = [sys.executable, "-B", str(CLIENTS / "ask.py"), *words, str(self.folder / role)]
+        words = [sys.executable, "-B", str(ASK), *words, str(self.folder / role)]
         it = subprocess.run(words, capture_output=True, text=True, stdin=subprocess.DEVNULL, timeout=60)
         return it.returncode, it.stdout + it.stderr, time.monotonic() - began
 
@@ -596,7 +596,7 @@ class Health(Fronted):
         status, told, took = self.health("--health", "A")
         self.assertEqual((status, told), (1, doubt))
         self.assertLess(took, 30)
-        words = [sys.executable, "-B", str(CLIENTS / "ask.py"), "--timeout", "0.5", str(self.folder / "TELLER")]
+        words = [sys.executable, "-B", str(ASK), "--timeout", "0.5", str(self.folder / "TELLER")]
         it = subprocess.run(words, input="\n", capture_output=True, text=True)
         self.assertEqual((it.returncode, it.stderr), (1, doubt))
         front.send_signal(signal.SIGCONT)
@@ -606,7 +606,7 @@ class Health(Fronted):
         """A request that wasn't carried out, and what the front says of that."""
         self.begin("--user-limit", "1")
         with connected(self.folder / "TELLER"):
-            it = subprocess.run([sys.executable, "-B", str(CLIENTS / "ask.py"), str(self.folder / "TELLER")], input="\n", capture_output=True, text=True)
+            it = subprocess.run([sys.executable, "-B", str(ASK), str(self.folder / "TELLER")], input="\n", capture_output=True, text=True)
             self.assertEqual((it.returncode, it.stdout, it.stderr), (1, "", "not carried out: too many connections of this user\n"))
 
 
@@ -618,28 +618,29 @@ class Unit(Case):
         return re.findall(rf"(?m)^{name}=(.*)$", UNIT.read_text())
 
     def test_folders(self):
-        """The service has no folder in which it could put a link where root changes a folder: root alone makes them, by prepare.py, and
-        the front serves the roles of the same file."""
+        """The service has no folder in which it could put a link where root changes a folder: root alone makes them, by
+        `cca-front --prepare`, and the front serves the roles of the same file."""
         self.assertEqual(self.words("RuntimeDirectory"), [])
         prepare, front = self.words("ExecStartPre") + self.words("ExecStart")
-        self.assertRegex(prepare, r"^\+.*/prepare\.py /etc/cca/front\.conf$")
-        self.assertRegex(front, r"/front\.py --config /etc/cca/front\.conf$")
+        self.assertRegex(prepare, r"^\+.*/cca-front --prepare /etc/cca/front\.conf$")
+        self.assertRegex(front, r"/cca-front --config /etc/cca/front\.conf$")
         self.assertEqual(self.words("ReadWritePaths"), ["/run/cca"])
 
     def test_ends(self):
         """A front that asks for a look isn't started again, and SIGHUP comes to it when it is reloaded."""
         self.assertEqual(self.words("Restart"), ["on-abnormal"])
         self.assertEqual(self.words("RestartPreventExitStatus"), [str(int(front_program.Status.LOOK))])
-        self.assertEqual(self.words("ExecReload"), ["/bin/kill -HUP $MAINPID"])
+        self.assertEqual(self.words("ExecReload"), [*self.words("ExecStartPre"), "/bin/kill -HUP $MAINPID"])
 
     def test_installed(self):
-        """The files that the unit's first lines install are all that its commands need."""
-        listed = re.findall(r"(?m)^#   install .*/usr/local/lib/cca (.*)$", UNIT.read_text())
-        for file in " ".join(listed).split():
-            shutil.copy(CLIENTS / file, self.folder)
-        for program in ("front.py", "prepare.py"):
-            words = [sys.executable, "-I", "-B", "-c", f"import runpy, sys; sys.path.insert(0, '.'); runpy.run_path({program!r})"]
-            it = subprocess.run(words, cwd=self.folder, capture_output=True, text=True)
+        """What the unit's first lines install is all that its commands need."""
+        steps = re.findall(r"(?m)^#   ((?:install|mkdir|cp) .*)$", UNIT.read_text())
+        script = "\n".join(steps).replace("/usr/local/", f"{self.folder}/local/").replace("/etc/cca", f"{self.folder}/etc")
+        subprocess.run(["sh", "-e", "-c", script], cwd=SERVICE, check=True)
+        self.assertTrue((self.folder / "etc" / "front.conf").exists())
+        for words in (["--help"], ["--prepare", "--help"]):
+            program = [sys.executable, "-I", "-B", self.folder / "local" / "sbin" / "cca-front", *words]
+            it = subprocess.run(program, cwd=self.folder, capture_output=True, text=True)
             self.assertEqual((it.returncode, it.stderr), (0, ""))
 
     @unittest.skipUnless(os.getuid() == 0, "who may connect is tried by root")
@@ -699,7 +700,7 @@ def served(program, keys, sockets):
     """Runs the front in this process."""
     os.dup2(os.open(os.devnull, os.O_WRONLY), 2)
     os.environ["CCA"] = str(program)
-    sys.argv = ["front.py", "--new", str(keys), *[f"{it}=TELLER" for it in sockets]]
+    sys.argv = ["cca-front", "--new", str(keys), *[f"{it}=TELLER" for it in sockets]]
     front_program.main()
 
 

@@ -1,5 +1,7 @@
 """What root prepares for the front's sockets: groups and folders, and that no link and no other folder is changed in their place."""
 import grp
+import hashlib
+import json
 import os
 import shutil
 import stat
@@ -9,7 +11,7 @@ import tempfile
 import unittest
 from pathlib import Path
 
-from tests.edits import CLIENTS, Edit, each_is_found
+from tests.edits import FRONT, Edit, each_is_found
 
 FAULTS = []  # its faults are edits of prepare.py
 EDITS = [
@@ -21,11 +23,12 @@ EDITS = [
     Edit("prepare.py", "    if os.fstat(folder).st_uid != user and (", "    if False and (", "Refusals.test_folder_in_use"),
     Edit("prepare.py", "found.st_uid != 0 or found.st_mode", "found.st_mode", "Refusals.test_settings_of_another"),
     Edit("prepare.py", "follow_symlinks=False", "follow_symlinks=True", "Refusals.test_settings_of_another"),
-    Edit("prepare.py", "        if folder in kept:", "        if False:", "Refusals.test_folder_of_keys"),
-    Edit("prepare.py", "os.fchmod(folder, MODE)", "pass", "Prepared.test_folders"),
+    Edit("prepare.py", "& kept:", "& set():", "Refusals.test_folder_of_keys"),
+    Edit("prepare.py", "os.fchmod(folder, mode)", "pass", "Prepared.test_folders"),
+    Edit("prepare.py", "owner.pw_gid, OWN_MODE)", "owner.pw_gid, MODE)", "Prepared.test_own_socket"),
     Edit("prepare.py", "    os.umask(0o022)\n", "", "Prepared.test_folders"),
 ]
-PROGRAM = CLIENTS / "prepare.py"
+PREPARE = (sys.executable, "-I", "-B", FRONT, "--prepare")
 USER = "nobody"  # who stands for the user of the service
 GROUPS = ("daemon", "nogroup")  # those of roles, which are there
 OTHER = 12345
@@ -53,7 +56,7 @@ class Rooted(unittest.TestCase):
         self.settings.chmod(0o644)
 
     def prepare(self, *words, umask=0o077):
-        return subprocess.run([sys.executable, "-B", PROGRAM, self.settings, "--user", USER, *words], capture_output=True, text=True, umask=umask)
+        return subprocess.run([*PREPARE, self.settings, "--user", USER, *words], capture_output=True, text=True, umask=umask)
 
     def shown(self, path):
         """Whose a folder is, and its mode."""
@@ -91,6 +94,19 @@ class Prepared(Rooted):
             (self.sockets / "teller" / "socket").touch()
         self.assertTrue((self.sockets / "teller" / "socket").exists())
 
+    def test_own_socket(self):
+        """The folder of the front's own socket is for its user alone; and the checksum of the program stands where root alone writes."""
+        program, sums = self.folder / "program", self.sockets / "program.json"
+        for text in ("one", "another"):
+            program.write_text(text)
+            more = f"control = {self.sockets}/control/socket\nprogram = {program}\nprogram-sum = {sums}\n[role A0]"
+            self.write(self.sockets / "teller" / "socket", self.sockets / "officer" / "socket")
+            self.settings.write_text(self.settings.read_text().replace("[role A0]", more))
+            self.succeeds()
+            self.assertEqual(self.shown(self.sockets / "control")[::2], (USER, "0o700"))
+            self.assertEqual(self.shown(sums), ("root", "root", "0o644"))
+            self.assertEqual(json.loads(sums.read_text())["sha256"], hashlib.sha256(text.encode()).hexdigest())
+
     def test_another_group(self):
         """A role whose group was changed: its folder is the new group's."""
         self.succeeds()
@@ -110,7 +126,7 @@ class Prepared(Rooted):
         shutil.copytree("/etc", self.folder / "etc", symlinks=True)
         self.settings.write_text(self.settings.read_text().replace("daemon", "cca-of-a-test"))
         script = 'mount --make-rprivate / && mount --bind "$1" /etc && shift && "$@" && getent group cca-of-a-test'
-        words = ["unshare", "--mount", "sh", "-c", script, "sh", self.folder / "etc", sys.executable, "-B", PROGRAM, self.settings, "--user", USER]
+        words = ["unshare", "--mount", "sh", "-c", script, "sh", self.folder / "etc", *PREPARE, self.settings, "--user", USER]
         if subprocess.run(["unshare", "--mount", "mount", "--make-rprivate", "/"], capture_output=True).returncode:
             self.skipTest("this container mounts nothing")
         it = subprocess.run(words, capture_output=True, text=True)

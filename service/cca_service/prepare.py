@@ -1,10 +1,10 @@
-#!/usr/bin/env python3
-"""Makes what the sockets of the front's roles need, before it starts: prepare.py FRONT.CONF, run by root.
+"""Makes what the sockets of the front's roles need, before it starts: `cca-front --prepare FRONT.CONF`, run by root.
 
-A group for each role, where it is missing, and the folder of its socket. The folder belongs to the user of the service and to the
-group, with mode 2750: the group may enter it and nobody else, and the socket in it gets the same group. The folders above are root's.
-Whoever could change one of them could have the rights to another folder given away; so links aren't followed, each folder is
-changed by its descriptor, and where anyone but root may write nothing is done.
+A group for each role, where it is missing, and the folder of its socket. The folder belongs to the user of the service and to
+the group, with mode 2750: the group may enter it and nobody else, and the socket in it gets the same group. The folder of the
+front's own socket is for that user alone. The checksum of the program is written down, since the service may run the program
+and not read it. The folders above are root's. Whoever could change one of them could have the rights to another folder given
+away; so links aren't followed, each folder is changed by its descriptor, and where anyone but root may write nothing is done.
 """
 import argparse
 import grp
@@ -14,10 +14,13 @@ import stat
 import subprocess
 import sys
 
-from settings import Settings, SettingsError, read_settings
+from cca_service.connections import Stop
+from cca_service.program import path_of, sum_text
+from cca_service.settings import Settings, SettingsError, read_settings
 
 USER = "cca"
 MODE = 0o2750
+OWN_MODE = 0o700
 GROUPADD = "/usr/sbin/groupadd"
 ENTERED = os.O_RDONLY | os.O_DIRECTORY | os.O_NOFOLLOW | os.O_CLOEXEC
 WRITTEN_BY_OTHERS = stat.S_IWGRP | stat.S_IWOTH
@@ -59,7 +62,8 @@ def made(folder: int, name: str, mode: int) -> None:
 
 
 def roots_folder(path: str, is_made: bool) -> int:
-    """The descriptor of a folder of root's, which is below such folders alone. Those that are missing are made, where that is asked."""
+    """The descriptor of a folder of root's, which is below such folders alone. Those that are missing are made, where that is
+    asked."""
     folder, above = os.open("/", ENTERED), "/"
     for name in filter(None, path.split("/")):
         if not is_roots(folder):
@@ -74,7 +78,7 @@ def roots_folder(path: str, is_made: bool) -> int:
     return folder
 
 
-def folder_made(path: str, user: int, group: int) -> None:
+def folder_made(path: str, user: int, group: int, mode: int) -> None:
     """The folder of a socket, with its owner and its mode. One that isn't the service's and holds anything is left alone."""
     above, name = os.path.split(path)
     outer = roots_folder(above, is_made=True)
@@ -83,7 +87,7 @@ def folder_made(path: str, user: int, group: int) -> None:
     if os.fstat(folder).st_uid != user and (os.fstat(folder).st_uid != 0 or os.listdir(folder)):
         raise Refused(f"{path} is there, and is no folder of the service: a socket needs a folder of its own")
     os.fchown(folder, user, group)
-    os.fchmod(folder, MODE)
+    os.fchmod(folder, mode)
     os.close(folder)
     os.close(outer)
 
@@ -102,29 +106,46 @@ def prepared(path: str, user: str) -> None:
     settings = settings_of_root(path)
     kept = {settings.folder, *(os.path.dirname(log) for log in (settings.audit, settings.log) if log)}
     try:
-        owner = pwd.getpwnam(user).pw_uid
+        owner = pwd.getpwnam(user)
     except KeyError:
         raise Refused(f"the user {user} isn't there") from None
-    for door in settings.doors:
-        folder = os.path.dirname(door.path)
-        if folder in kept:
-            raise Refused(f"{folder} has keys or logs: a socket needs a folder of its own")
-        folder_made(folder, owner, group_made(door.group))
+    own = os.path.dirname(settings.control) if settings.control else None
+    folders = [os.path.dirname(door.path) for door in settings.doors]
+    for folder in {*folders, own or folders[0]} & kept:
+        raise Refused(f"{folder} has keys or logs: a socket needs a folder of its own")
+    for door, folder in zip(settings.doors, folders):
+        folder_made(folder, owner.pw_uid, group_made(door.group), MODE)
+    if own:
+        folder_made(own, owner.pw_uid, owner.pw_gid, OWN_MODE)
+    if settings.program_sum:
+        sum_written(settings.program_sum, settings.program)
 
 
-def main() -> int:
-    words = argparse.ArgumentParser(description="Makes the groups of the front's roles and the folders of their sockets.")
+def sum_written(path: str, program: str) -> None:
+    """Writes down the checksum of the program, in a folder of root's."""
+    above, name = os.path.split(path)
+    folder, new = roots_folder(above, is_made=True), f".{name}.new"
+    try:
+        os.unlink(new, dir_fd=folder)
+    except FileNotFoundError:
+        pass
+    file = os.open(new, os.O_WRONLY | os.O_CREAT | os.O_EXCL | os.O_NOFOLLOW | os.O_CLOEXEC, 0o644, dir_fd=folder)
+    with open(file, "w", encoding="utf-8") as told:
+        told.write(sum_text(path_of(program)))
+    os.rename(new, name, src_dir_fd=folder, dst_dir_fd=folder)
+    os.close(folder)
+
+
+def main(arguments: list[str]) -> int:
+    purpose = "Makes the groups of the front's roles and the folders of their sockets."
+    words = argparse.ArgumentParser(prog="cca-front --prepare", description=purpose)
     words.add_argument("settings", metavar="FRONT.CONF")
     words.add_argument("--user", default=USER, help=f"the user of the service, {USER} if not given")
-    given = words.parse_args()
+    given = words.parse_args(arguments)
     os.umask(0o022)
     try:
         prepared(given.settings, given.user)
         return 0
-    except (Refused, SettingsError, OSError, subprocess.CalledProcessError) as error:
+    except (Refused, Stop, SettingsError, OSError, subprocess.CalledProcessError) as error:
         print(f"prepare: {error}", file=sys.stderr)
         return 1
-
-
-if __name__ == "__main__":
-    sys.exit(main())

@@ -49,14 +49,20 @@ def listening(path: str) -> socket.socket:
     return it
 
 
+def uid_of(peer: socket.socket) -> int:
+    """The user at the other end of a connection."""
+    uid: int = struct.unpack("3i", peer.getsockopt(socket.SOL_SOCKET, socket.SO_PEERCRED, struct.calcsize("3i")))[1]
+    return uid
+
+
 class Connection:
     """A client's connection: what came of it and wasn't served yet, and what wasn't sent yet."""
 
     def __init__(self, peer: socket.socket, door: "Door"):
         peer.setblocking(False)
+        self.number = peer.fileno()
         self.socket, self.door, self.used = peer, door, time.monotonic()
-        credentials = peer.getsockopt(socket.SOL_SOCKET, socket.SO_PEERCRED, struct.calcsize("3i"))
-        self.uid: int = struct.unpack("3i", credentials)[1]
+        self.uid = uid_of(peer)
         self.taken, self.unsent = bytearray(), b""
 
     def has_line(self) -> bool:
@@ -64,7 +70,7 @@ class Connection:
 
     def waits_for_turn(self) -> bool:
         """Whether it has a line, which can be served."""
-        return not self.unsent and self.has_line()
+        return not self.unsent and bool(self.taken) and self.has_line()
 
     def receive(self) -> bool:
         """Takes what has come; of a line that is too long its beginning alone. False where nothing more can come."""
@@ -75,7 +81,7 @@ class Connection:
         except OSError:
             return False
         self.taken += chunk
-        if not self.has_line():
+        if len(self.taken) > LONGEST and not self.has_line():
             del self.taken[LONGEST + 1 :]
         return bool(chunk)
 
@@ -89,8 +95,14 @@ class Connection:
 
     def line(self) -> bytes:
         """The next line; of one that is too long as much as cca needs to refuse it."""
-        line, _, self.taken = self.taken.partition(b"\n")
-        return bytes(line[: LONGEST + 1])
+        end = self.taken.index(b"\n")
+        line = bytes(self.taken[: min(end, LONGEST + 1)])
+        del self.taken[: end + 1]
+        return line
+
+    def put_back(self, line: bytes) -> None:
+        """Makes a line that wasn't begun the next one again."""
+        self.taken[:0] = line + b"\n"
 
     def send(self) -> bool:
         """Sends as much as there is room for. False where the client has left."""
@@ -116,10 +128,10 @@ class Connection:
 class Door:
     """The socket of one role, its connections, the longest unused one first, and those of them that have a whole line."""
 
-    def __init__(self, path: str, role: str):
+    def __init__(self, path: str, role: str, group: str = ""):
         if not ROLE.fullmatch(role):
             raise Stop(f"{role or 'nothing'} is no role's name: a socket is named as PATH=ROLE")
-        self.path, self.role = path, role
+        self.path, self.role, self.name, self.group = path, role, role.encode(), group
         self.lock = locked(path + ".lock", os.O_RDWR | os.O_CREAT, path)
         self.listener = listening(path)
         self.connections: dict[Connection, None] = {}
@@ -145,9 +157,9 @@ class Door:
         if not self.users[connection.uid]:
             del self.users[connection.uid]
 
-    def used(self, connection: Connection) -> None:
+    def used(self, connection: Connection, when: float) -> None:
         """Puts a connection behind those that were used before."""
-        connection.used = time.monotonic()
+        connection.used = when
         del self.connections[connection]
         self.connections[connection] = None
 

@@ -1,5 +1,5 @@
 #!/usr/bin/env python3
-"""Asks the front of front.py. The requests name no role.
+"""Asks the front. The requests name no role.
 
     ask.py [--timeout SECONDS] SOCKET < requests
     ask.py [--timeout SECONDS] --health LABEL SOCKET
@@ -89,12 +89,13 @@ class Asked:
 def ask_each(path: str, timeout: float | None) -> None:
     """Asks the lines of standard input, and prints the reply to each."""
     front = Asked(path, time.monotonic() + (BEGINNING if timeout is None else timeout))
-    for request in sys.stdin.buffer:
-        if not request.endswith(b"\n"):
-            print("the last line has no newline: it may be half a request, and isn't asked", file=sys.stderr)
-            break
-        reply = front.ask(request, None if timeout is None else time.monotonic() + timeout)
-        print(reply.decode(), flush=True)
+    with front.socket:
+        for request in sys.stdin.buffer:
+            if not request.endswith(b"\n"):
+                print("the last line has no newline: it may be half a request, and isn't asked", file=sys.stderr)
+                break
+            reply = front.ask(request, None if timeout is None else time.monotonic() + timeout)
+            print(reply.decode(), flush=True)
 
 
 def is_healthy(path: str, label: str, timeout: float | None) -> bool:

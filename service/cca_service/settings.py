@@ -5,6 +5,8 @@
     audit = /var/log/cca/trail.jsonl
     log = /var/log/cca/front.log
     program = /usr/bin/cca
+    program-sum = /run/cca/program.json
+    control = /run/cca/control/socket
     limit = 256
     user-limit = 64
     idle = 600
@@ -13,9 +15,10 @@
     group = cca-teller
     socket = /run/cca/teller/socket
 
-A section for each role: who is in the group may open the socket, and has the role. Without audit there is no trail, without log
-the lines go to standard error, without program it is cca of the path, and the numbers are those above where they are left
-out. Paths are whole ones. A comment is a line of its own behind #.
+A section for each role: who is in the group may open the socket, and has the role. Without audit there is no trail, without
+log the lines go to standard error, without program it is cca of the path, without control the front has no socket of its own,
+and the numbers are those above where they are left out. Into program-sum root writes the checksum of the program. Paths are
+whole ones. A comment is a line of its own behind #.
 """
 import configparser
 import math
@@ -32,7 +35,7 @@ ROLE = re.compile(r"[A-Z][A-Z0-9]{0,7}")
 GROUP = re.compile(r"[a-z_][a-z0-9_-]{0,31}")
 PATH = re.compile(r"(/(?!\.\.?(/|$))[^/\s]+)+")  # whole, and neither . nor .. is a part of it
 FRONT = "front"
-FRONT_WORDS = ("folder", "audit", "log", "program", "limit", "user-limit", "idle")
+FRONT_WORDS = ("folder", "audit", "log", "program", "program-sum", "control", "limit", "user-limit", "idle")
 ROLE_WORDS = ("group", "socket")
 
 
@@ -61,6 +64,8 @@ class Settings:
     user_limit: int
     idle: float
     doors: tuple[DoorSettings, ...]
+    program_sum: str | None = None
+    control: str | None = None
 
 
 class Section:
@@ -86,6 +91,12 @@ class Section:
         """A path, which has to be there."""
         if not PATH.fullmatch(self.required(word)):
             raise self.wrong(word, "a whole path, without spaces, . and ..")
+        return self.words[word]
+
+    def socket_path(self, word: str) -> str:
+        """The path of a socket, which may not be as long as others."""
+        if len(os.fsencode(self.path(word))) > PATH_SIZE:
+            raise self.wrong(word, f"a path of at most {PATH_SIZE} bytes")
         return self.words[word]
 
     def path_or_none(self, word: str) -> str | None:
@@ -117,6 +128,7 @@ def read_settings(path: str) -> Settings:
     user_limit = front.connections("user-limit", min(USER_LIMIT, limit))
     if user_limit > limit:
         raise front.wrong("user-limit", f"within limit = {limit}, which all users share")
+    control = front.socket_path("control") if "control" in front.words else None
     return Settings(
         folder=front.path("folder"),
         audit=front.path_or_none("audit"),
@@ -125,7 +137,9 @@ def read_settings(path: str) -> Settings:
         limit=limit,
         user_limit=user_limit,
         idle=front.seconds("idle", IDLE),
-        doors=read_doors(path, sections),
+        doors=read_doors(path, sections, control),
+        program_sum=front.path_or_none("program-sum"),
+        control=control,
     )
 
 
@@ -149,14 +163,17 @@ def parsed(path: str) -> dict[str, dict[str, str]]:
     return {name: dict(file.items(name)) for name in file.sections()}
 
 
-def read_doors(file: str, sections: dict[str, dict[str, str]]) -> tuple[DoorSettings, ...]:
-    """The sockets of the roles. No two have one path, and those of one folder have one group, which the folder belongs to."""
+def read_doors(file: str, sections: dict[str, dict[str, str]], control: str | None) -> tuple[DoorSettings, ...]:
+    """The sockets of the roles. No two have one path, and those of one folder have one group, which the folder belongs to.
+    The folder of the front's own socket is that of no role."""
     doors = tuple(read_door(file, name, words) for name, words in sections.items())
     if not doors:
         raise SettingsError(f"{file}: no role has a section, as [role TELLER]")
     paths: set[str] = set()
     groups: dict[str, str] = {}
     for door in doors:
+        if control and os.path.dirname(door.path) == os.path.dirname(control):
+            raise SettingsError(f"{file}, [role {door.role}]: the folder of its socket is that of the front's own one")
         if door.path in paths:
             raise SettingsError(f"{file}, [role {door.role}]: another role has the socket {door.path}")
         paths.add(door.path)
@@ -171,9 +188,7 @@ def read_door(file: str, name: str, words: dict[str, str]) -> DoorSettings:
     if kind != "role" or not ROLE.fullmatch(role):
         raise SettingsError(f"{file}, [{name}]: this is neither [{FRONT}] nor a role, as [role TELLER]")
     section = Section(file, name, words, ROLE_WORDS)
-    door = DoorSettings(role, section.path("socket"), section.required("group"))
+    door = DoorSettings(role, section.socket_path("socket"), section.required("group"))
     if not GROUP.fullmatch(door.group):
         raise section.wrong("group", "the name of a group")
-    if len(os.fsencode(door.path)) > PATH_SIZE:
-        raise section.wrong("socket", f"a path of at most {PATH_SIZE} bytes")
     return door

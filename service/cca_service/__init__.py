@@ -1,0 +1,1 @@
+"""The front, which serves several clients by one `cca run`, and what an operator does beside it."""
