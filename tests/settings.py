@@ -4,10 +4,10 @@ import tempfile
 import unittest
 from pathlib import Path
 
-from tests.edits import CLIENTS, Edit, each_is_found
+from tests.edits import PATHS, Edit, each_is_found
 
-sys.path.insert(0, str(CLIENTS))
-from settings import DoorSettings, Settings, SettingsError, read_settings  # noqa: E402
+sys.path[:0] = PATHS
+from cca_service.settings import DoorSettings, Settings, SettingsError, read_settings  # noqa: E402
 
 FAULTS = []  # its faults are edits of settings.py
 EDITS = [
@@ -22,7 +22,8 @@ EDITS = [
     Edit("settings.py", "min(USER_LIMIT, limit)", "USER_LIMIT", "Said.test_little"),
     Edit("settings.py", "if door.path in paths:", "if False:", "Wrong.test_sockets"),
     Edit("settings.py", "!= door.group:", "== None:", "Wrong.test_sockets"),
-    Edit("settings.py", "if len(os.fsencode(door.path)) > PATH_SIZE:", "if False:", "Wrong.test_sockets"),
+    Edit("settings.py", "if len(os.fsencode(self.path(word))) > PATH_SIZE:", "if not self.path(word):", "Wrong.test_sockets"),
+    Edit("settings.py", "if control and os.path.dirname(door.path) == os.path.dirname(control):", "if False:", "Said.test_own_socket"),
 ]
 ALL = """# a comment
 [front]
@@ -30,6 +31,8 @@ folder = /var/lib/cca
 audit = /var/log/cca/trail.jsonl
 log = /var/log/cca/front.log
 program = /usr/bin/cca
+program-sum = /run/cca/program.json
+control = /run/cca/control/socket
 limit = 100
 user-limit = 7
 idle = 0.5
@@ -74,7 +77,7 @@ class Read(unittest.TestCase):
 class Said(Read):
     def test_all(self):
         doors = (DoorSettings("TELLER", "/run/cca/teller/socket", "cca-teller"), DoorSettings("OFFICER", "/run/cca/officer/socket", "cca-officer"))
-        wanted = Settings("/var/lib/cca", "/var/log/cca/trail.jsonl", "/var/log/cca/front.log", "/usr/bin/cca", 100, 7, 0.5, doors)
+        wanted = Settings("/var/lib/cca", "/var/log/cca/trail.jsonl", "/var/log/cca/front.log", "/usr/bin/cca", 100, 7, 0.5, doors, "/run/cca/program.json", "/run/cca/control/socket")
         self.assertEqual(self.read(ALL), wanted)
 
     def test_little(self):
@@ -82,6 +85,12 @@ class Said(Read):
         wanted = Settings("/keys", None, None, "cca", 256, 64, 600.0, (DoorSettings("A", "/run/a/s", "a"),))
         self.assertEqual(self.read(LITTLE), wanted)
         self.assertEqual(self.read(LITTLE.replace("[role", "limit = 9\n[role")).user_limit, 9)
+
+    def test_own_socket(self):
+        """Its folder is no role's, since others than the front's user may enter that."""
+        self.refused(ALL.replace("/run/cca/control/socket", "/run/cca/teller/own"), ", [role TELLER]: the folder of its socket is that of the front's own one")
+        self.refused(ALL.replace("/run/cca/control/socket", f"/run/{'a' * 103}"), ", [front]: control = ")
+        self.refused(ALL.replace("/run/cca/control/socket", "control/socket"), ", [front]: control = ")
 
     def test_percent(self):
         self.assertEqual(self.read(LITTLE.replace("/keys", "/k%(limit)s")).folder, "/k%(limit)s")
@@ -102,9 +111,9 @@ class Wrong(Read):
         self.each_refused(", [role OFFICER]: socket is missing", ("socket=/run/cca/officer/socket", ""))
 
     def test_lines(self):
-        self.each_refused(", line 7: ", ("limit = 100", "limit 100"), ("limit = 100", "limit: 100"))
-        self.each_refused(", line 8: ", ("user-limit = 7", "limit = 7"))
-        self.each_refused(", line 16: ", ("[role OFFICER]", "[role TELLER]"))
+        self.each_refused(", line 9: ", ("limit = 100", "limit 100"), ("limit = 100", "limit: 100"))
+        self.each_refused(", line 10: ", ("user-limit = 7", "limit = 7"))
+        self.each_refused(", line 18: ", ("[role OFFICER]", "[role TELLER]"))
         self.each_refused(", line 2: ", ("[front]", "folder = /keys"))
 
     def test_sections(self):

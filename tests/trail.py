@@ -8,12 +8,11 @@ import random
 import re
 import shutil
 import subprocess
-import sys
 import time
 import unittest
 
 from tests.formats import BODIES, BODY, CELL, SIZES, image, trail_record
-from tests.harness import EXAMPLES, Calls, Case, Coprocess, Fault
+from tests.harness import Calls, Case, Coprocess, Fault
 
 FAULTS = [Fault('"$CCA" "$@" | sed -u "s/ 00 DEFAULT / 05 DEFAULT /"', case="test_refused_calls", tells="'0 00 DEFAULT CSNBKRL -'")]
 
@@ -160,67 +159,6 @@ class Shown(Trail):
         self.write(bodies)
         self.shows(bodies, True)
         self.ends(self.cca("audit", given="A\n"), 14, err="cca: trail cell 300 is damaged")
-
-
-class Reader(Trail):
-    """examples/operating/trail-info.py, which shows what is whole of a damaged trail, where `cca trail` shows no record."""
-
-    def reader(self):
-        script = EXAMPLES / "operating" / "trail-info.py"
-        return subprocess.run([sys.executable, script], cwd=self.folder, capture_output=True, text=True)
-
-    def told(self, lines, faults):
-        """The records that it shows, and what it says of the others."""
-        it = self.reader()
-        self.assertEqual((it.returncode, it.stderr), (1 if faults else 0, "".join(f"{fault}\n" for fault in faults)))
-        self.same(it.stdout.splitlines(), lines)
-
-    def test_whole(self):
-        for first, last in ((0, 0), (0, 3), (1, 4097), (4904, 9000), (NUMBERS - CELLS, NUMBERS)):
-            with self.subTest(first=first, last=last):
-                self.write(bodies_of(first, last))
-                self.told(judged(bodies_of(first, last)), [])
-
-    def test_damaged(self):
-        """The cells that are changed, the records that are shown then, and what is told of the others."""
-        old, bad, none = trail_record(3, 0), b"\x02".ljust(BODY, b"\0"), bytes(BODY)
-        for first, last, cells, shown, told in (
-            (0, 6, {2: bad}, (0, 1, 3, 4, 5), ["cell 2 is damaged", "records 2 to 2 are missing"]),
-            (0, 6, {5: bad}, (0, 1, 2, 3, 4), ["cell 5 is damaged"]),
-            (0, 6, {1: none, 2: none}, (0, 3, 4, 5), ["records 1 to 2 are missing"]),
-            (0, 6, {4: old}, (0, 1, 2, 3, 5), ["cell 4 is damaged", "records 4 to 4 are missing"]),
-            (0, 1, {0: bad}, (), ["cell 0 is damaged"]),
-            (9, CELLS + 9, {3: old}, (3, *range(9, CELLS + 3), *range(CELLS + 4, CELLS + 9)), [
-                "1 of the records are older than they should be: 3 to 3", f"records {CELLS + 3} to {CELLS + 3} are missing"]),
-        ):  # fmt: skip
-            with self.subTest(cells=list(cells), told=told):
-                bodies = [cells.get(cell, body) for cell, body in enumerate(bodies_of(first, last))]
-                self.write(bodies)
-                self.ends(self.cca("trail"), 14, err=f"cca: trail cell {judged(bodies)} is damaged")
-                lines = sorted(it for cell, it in enumerate(map(read, bodies)) if it and it[0] % CELLS == cell)
-                self.told([line for number, line in lines if number in shown], told)
-
-    def test_each_byte_changed(self):
-        """A trail of records of which each has another byte changed, and trails with one such record."""
-        bodies = bodies_of(0, BODY)
-        for at in range(BODY):
-            changed = bytearray(trail_record(at, 3, "TELLER", "CSNBENC", "PAY"))
-            changed[at] ^= 0x81
-            bodies[at] = bytes(changed)
-        for cells in (range(BODY), *([at] for at in range(0, BODY, 5))):
-            held = [bodies[cell] if cell in cells else body for cell, body in enumerate(bodies_of(0, BODY))]
-            self.write(held)
-            it = self.reader()
-            whole = sorted(found for cell, found in enumerate(map(read, held)) if found and found[0] % CELLS == cell)
-            with self.subTest(cells=cells):
-                self.same(it.stdout.splitlines(), [line for _, line in whole])
-                self.assertEqual(it.returncode, 1 if isinstance(judged(held), int) else 0)
-
-    def test_no_trail(self):
-        """A file that is missing, or cut."""
-        self.told([], ["cca.trail can't be read: No such file or directory"])
-        self.file().write_bytes(image("trail", bodies_of(0, 3))[: 2 * CELL])
-        self.told([read(it)[1] for it in bodies_of(0, 2)[:2]], [f"cca.trail has {2 * CELL} bytes: a trail has {SIZE}"])
 
 
 class Written(Trail):
