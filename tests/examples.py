@@ -1,13 +1,11 @@
 """The examples: each file of requests gets the replies that stand beside it; those of a folder are run one after another in one folder.
 Where NAME.trail stands there, the requests are served with an audit trail, which then has these records; and where NAME.unload
 does, the store is unloaded then with its words, and what is written is NAME.file and NAME.report. What one folder takes in is what
-another one gave out. And the script that shows a module has the access control points of the table.
+another one gave out.
 """
-import json
 import re
-import runpy
 
-from tests.harness import EXAMPLES, TOP, Case, Fault, example
+from tests.harness import EXAMPLES, Case, Fault, example
 
 FAULTS = [Fault("""\"$CCA" "$@" | sed 's/^OK value=\\(.*\\)[0-9a-f]$/OK value=\\10/'""", case="Examples.test_bank", tells="OK value=")]
 
@@ -50,12 +48,3 @@ class Pairs(Case):
         stopped = (EXAMPLES / "moved" / "2-stopped.txt").read_text()
         self.assertEqual((EXAMPLES / "moved" / "3-again.txt").read_text(), unloaded)
         self.assertTrue(stopped.endswith("\n") and unloaded.startswith(stopped))
-
-
-class Points(Case):
-    def test_module_info(self):
-        """Each point stands at its bit."""
-        script = runpy.run_path(str(EXAMPLES / "operating" / "module-info.py"))
-        rows = json.loads((TOP / "clients" / "verbs.json").read_text())["points"]
-        found = [(name, f"{1 << bit:08x}") for bit, name in enumerate(script["POINTS"])]
-        self.assertEqual(found, [(it["name"], it["value"]) for it in rows])
