@@ -3,6 +3,7 @@ and that its front serves; the folder for an image. Then its scripts: what each 
 what a removal leaves. tests/package_libraries.py has the libraries.
 """
 import functools
+import hashlib
 import os
 import platform
 import re
@@ -21,8 +22,25 @@ from tests.install import is_built, owner_of_memory
 FAULTS = []  # its faults are planted in the tool, by tests/planted.py
 TOOL = TOP / "tools/package/run"
 CLIENTS = TOP / "clients"
+SERVICE = TOP / "service"
 UNIT = "usr/lib/systemd/system/cca-front.service"
 SETTINGS = "etc/cca/front.conf"
+# The settings of an earlier version.
+OLDER_SETTINGS = """[front]
+folder = /var/lib/cca
+audit = /var/log/cca/trail.jsonl
+limit = 256
+user-limit = 64
+idle = 600
+
+[role TELLER]
+group = cca-teller
+socket = /run/cca/teller/socket
+
+[role OFFICER]
+group = cca-officer
+socket = /run/cca/officer/socket
+"""
 
 
 @functools.cache
@@ -92,7 +110,7 @@ class Packaged(Case):
         self.ask((EXAMPLES / "start.txt").read_text().splitlines(), self.folder / "keys")
         lines = f"[front]\nfolder = {self.folder}/keys\nprogram = {root}/usr/bin/cca\n"
         settings.write_text(f"{lines}[role DEFAULT]\nsocket = {path}\ngroup = a\n")
-        words = [sys.executable, "-B", root / "usr/lib/cca/front.py", "--config", settings]
+        words = [sys.executable, "-B", root / "usr/sbin/cca-front", "--config", settings]
         front = subprocess.Popen(words, stderr=subprocess.DEVNULL)
         self.addCleanup(front.wait)
         self.addCleanup(front.kill)
@@ -130,17 +148,24 @@ class Package(Packaged):
         root = self.root()
         found = {str(it.relative_to(root)): it.stat().st_mode & 0o777 for it in root.rglob("*") if it.is_file()}
         wanted = {"usr/bin/cca": 0o711, SETTINGS: 0o644}
-        wanted |= {f"usr/lib/cca/{name}.py": 0o755 for name in ("ask", "client", "front", "prepare")}
+        wanted |= {name: 0o755 for name in ("usr/bin/ccactl", "usr/sbin/cca-front", "usr/lib/cca/cca_service/ask.py")}
         wanted |= {f"usr/lib/{name}.d/cca.conf": 0o644 for name in ("sysusers", "tmpfiles")}
-        wanted |= {f"usr/share/doc/cca/docs/{it.name}": 0o644 for it in (TOP / "docs").glob("*.md")}
+        wanted |= {f"usr/share/doc/cca/{it.relative_to(TOP)}": 0o644 for it in (TOP / "docs").rglob("*.md")}
+        wanted |= {"usr/share/doc/cca/examples/practice/practice": 0o755, "usr/share/doc/cca/examples/front.conf": 0o644}
+        wanted |= {f"usr/share/man/man8/{name}.8.gz": 0o644 for name in ("ccactl", "cca-front")}
+        wanted |= {f"usr/share/bash-completion/completions/{name}": 0o644 for name in ("cca", "ccactl")}
         others = ["usr/share/man/man1/cca.1.gz", "usr/share/doc/cca/VERSION", "usr/share/doc/cca/examples/first.txt"]
-        others += [f"usr/lib/cca/{name}.py" for name in ("connections", "journal", "service", "settings", "trail")]
+        others += [f"usr/lib/cca/{it.relative_to(SERVICE)}" for it in SERVICE.glob("cca_service/**/*.py") if it.name != "ask.py"]
+        others += ["usr/lib/cca/programs"]
+        others += [f"usr/lib/cca/cca/{name}.py" for name in ("__init__", "coprocessor")]
         others += [f"usr/share/doc/cca/{name}" for name in ("copyright", "changelog.gz")]
         wanted |= dict.fromkeys([*others, UNIT], 0o644)
         if (CLIENTS / "python").is_dir():
-            wanted |= {"usr/lib/python3/dist-packages/cca/__init__.py": 0o644, "usr/share/bash-completion/completions/cca": 0o644}
+            wanted |= {"usr/lib/python3/dist-packages/cca/__init__.py": 0o644}
         self.assertEqual({name: found.get(name) for name in wanted}, wanted)
         self.assertEqual([name for name in found if "__pycache__" in name or "/." in name], [])
+        total = hashlib.sha256((root / "usr/bin/cca").read_bytes()).hexdigest()
+        self.assertEqual((root / "usr/lib/cca/programs").read_text(), f"{total} {version()}\n")
         self.assertEqual((root / "usr/bin/cca").read_bytes(), (TOP / "crates/cca/out/cca").read_bytes())
         self.assertRegex((root / "usr/share/doc/cca/VERSION").read_text(), r"\Acca [0-9.]+\ncommit ([0-9a-f]{40}(, with changes)?|unknown)\nproved and built with .+\n\Z")
 
@@ -155,8 +180,21 @@ class Package(Packaged):
         self.assertEqual(owner_of_memory(self, self.root() / "usr/bin/cca"), 0)
 
     def test_manual(self):
-        pages = subprocess.run(["gzip", "-dc", self.root() / "usr/share/man/man1/cca.1.gz"], capture_output=True, check=True).stdout
-        self.assertEqual(pages, (TOP / "docs" / "cca.1").read_bytes())
+        """The pages of the repository; man finds no fault in them, where it is installed."""
+        root = self.root()
+        for name, source in (("man1/cca.1", "docs/cca.1"), ("man8/ccactl.8", "service/ccactl.8"), ("man8/cca-front.8", "service/cca-front.8")):
+            page = root / "usr/share/man" / f"{name}.gz"
+            self.assertEqual(subprocess.run(["gzip", "-dc", page], capture_output=True, check=True).stdout, (TOP / source).read_bytes())
+            if shutil.which("man"):
+                it = subprocess.run(["man", "--warnings", "-l", page], env={**os.environ, "MANWIDTH": "80"}, capture_output=True, text=True)
+                self.assertEqual((it.returncode, it.stderr), (0, ""), name)
+
+    def test_ccactl(self):
+        """It stands on what the package has, and on nothing of the folder in which it is called."""
+        root = self.root()
+        (self.folder / "cca_service.py").write_text("raise SystemExit('the wrong one')")
+        it = subprocess.run([root / "usr/bin/ccactl", "module", "--folder", "."], cwd=self.folder, capture_output=True, text=True)
+        self.assertEqual((it.returncode, it.stderr), (3, "ccactl module: . has no cca.module\n"))
 
     def test_python(self):
         """Python knows the version of its library, by the package and by the wheel beside it."""
@@ -201,23 +239,25 @@ class Unit(Packaged):
         """What root prepares and the front reads is the operator's file, whose roles each have a group and a folder below /run/cca."""
         root = self.root()
         unit = (root / UNIT).read_text()
-        self.assertRegex(unit, r"(?m)^ExecStartPre=\+/usr/bin/env python3 -B /usr/lib/cca/prepare.py /etc/cca/front.conf$")
-        self.assertRegex(unit, r"(?m)^ExecStart=/usr/bin/env python3 -B /usr/lib/cca/front.py --config /etc/cca/front.conf$")
+        self.assertRegex(unit, r"(?m)^ExecStartPre=\+/usr/bin/env python3 -I -B /usr/sbin/cca-front --prepare /etc/cca/front.conf$")
+        self.assertRegex(unit, r"(?m)^ExecStart=/usr/bin/env python3 -I -B /usr/sbin/cca-front --config /etc/cca/front.conf$")
         self.assertIn("\nReadWritePaths=/run/cca\n", unit)
         self.assertNotRegex(unit, r"(?m)/usr/local/|^RuntimeDirectory=|useradd|\binstall\b")
-        words = [sys.executable, "-B", "-c", "import settings; print(settings.read_settings('etc/cca/front.conf'))"]
+        words = [sys.executable, "-B", "-c", "from cca_service import settings; print(settings.read_settings('etc/cca/front.conf'))"]
         it = subprocess.run(words, cwd=root, env={"PYTHONPATH": "usr/lib/cca"}, capture_output=True, text=True)
         self.assertIn("Settings(folder='/var/lib/cca', audit='/var/log/cca/trail.jsonl', log=None, program='cca',", it.stdout, it.stderr)
         doors = re.findall(r"role='(\w+)', path='/run/cca/(\w+)/socket', group='cca-(\w+)'", it.stdout)
-        self.assertEqual(doors, [("TELLER", "teller", "teller"), ("OFFICER", "officer", "officer")])
+        people = ["TELLER", "OFFICER", "AUDITOR", "CUSTOD1", "CUSTOD2", "CUSTOD3", "SECADMIN", "KEYPART1", "KEYPART2"]
+        self.assertEqual(doors, [*((it, it.lower(), it.lower()) for it in people), ("DEFAULT", "roles", "roles")])
+        self.assertIn("control='/run/cca/control/socket'", it.stdout)
 
-    def test_as_the_example(self):
-        """It is the example's unit, by the paths of the package, and names the page on it."""
+    def test_as_in_the_checkout(self):
+        """It is the unit of service/, by the paths of the package, and names the page on it."""
         root = self.root()
-        unit, example = (it.read_text().partition("[Unit]\n")[2] for it in (root / UNIT, EXAMPLES / "clients/cca-front.service"))
+        unit, ours = (it.read_text().partition("[Unit]\n")[2] for it in (root / UNIT, SERVICE / "cca-front.service"))
         shown = re.search(r"(?m)^Documentation=man:cca\(1\) file:/(\S+)\n", unit)
         self.assertTrue((root / shown[1]).is_file())
-        self.assertEqual(unit.replace(shown[0], ""), example.replace("/usr/local/lib/cca/", "/usr/lib/cca/").replace("/usr/local/bin:", ""))
+        self.assertEqual(unit.replace(shown[0], ""), ours.replace("/usr/local/sbin/", "/usr/sbin/").replace("/usr/local/bin:", ""))
 
     def test_folder_of_sockets(self):
         """It is root's: the service can't put a link in the place of a folder that root changes."""
@@ -381,6 +421,45 @@ class Upgrade(Packaged):
         self.dpkg(root, "--install", self.package)
         self.assertEqual((root / SETTINGS).read_text(), roles)
 
+    def older(self):
+        """A package as an earlier version was, whose front was single files, and which had two roles and no socket of its own."""
+        folder, package = self.folder / "older", self.folder / "older.deb"
+        subprocess.run(["dpkg-deb", "--raw-extract", self.package, folder], check=True)
+        for name in ("usr/lib/cca/cca_service", "usr/lib/cca/cca"):
+            shutil.rmtree(folder / name)
+        for name in ("usr/bin/ccactl", "usr/sbin/cca-front"):
+            (folder / name).unlink()
+        for name in ("front", "prepare", "settings"):
+            (folder / f"usr/lib/cca/{name}.py").write_text("older")
+        (folder / SETTINGS).write_text(OLDER_SETTINGS)
+        control = folder / "DEBIAN/control"
+        control.write_text(re.sub("(?m)^Version: .*$", "Version: 1.0", control.read_text()))
+        subprocess.run(["dpkg-deb", "--root-owner-group", "-Znone", "--build", folder, package], check=True, stdout=subprocess.DEVNULL)
+        return package
+
+    def test_from_single_files(self):
+        """The front of an earlier version goes. Its settings stay where the operator changed them, and the new front reads them."""
+        for changes in ({}, {"[role OFFICER]": "[role TREASURY]"}):
+            with self.subTest(changes):
+                root = self.folder / f"root{len(changes)}"
+                shutil.copytree(installed(self.package), root, symlinks=True)
+                self.dpkg(root, "--install", "--force-downgrade", "--force-confnew", self.older())
+                shutil.rmtree(self.folder / "older")
+                self.assertEqual((root / SETTINGS).read_text(), OLDER_SETTINGS)
+                for before, after in changes.items():
+                    (root / SETTINGS).write_text(OLDER_SETTINGS.replace(before, after))
+                self.dpkg(root, "--install", "--force-confold" if changes else "--force-confdef", self.package)
+                self.assertEqual([it.name for it in (root / "usr/lib/cca").glob("*.py")], [])
+                self.assertTrue((root / "usr/sbin/cca-front").exists() and (root / "usr/bin/ccactl").exists())
+                self.assertEqual(self.roles_read(root), ["TELLER", "TREASURY"] if changes else ["TELLER", "OFFICER"] + self.roles_read(root)[2:])
+                self.assertEqual(len(self.roles_read(root)), 2 if changes else 10)
+
+    def roles_read(self, root):
+        """The roles that the front of a root has by its settings."""
+        script = "from cca_service import settings; print(*(it.role for it in settings.read_settings('etc/cca/front.conf').doors))"
+        it = subprocess.run([sys.executable, "-B", "-c", script], cwd=root, env={"PYTHONPATH": "usr/lib/cca"}, capture_output=True, text=True)
+        return it.stdout.split()
+
     def test_enabled_unit(self):
         """An administrator enables the unit, and it stays so until a purge."""
         if not shutil.which("deb-systemd-helper"):
@@ -429,8 +508,8 @@ class Policy(Packaged):
         files = [name for name in self.left(root) if name.startswith("usr/") and not (root / name).is_symlink()]
         self.assertEqual(sorted(re.findall(r"(?m)^[0-9a-f]{32}  (.*)$", sums)), files)
         self.assertEqual(self.dpkg(root, "--verify", "cca"), "")
-        (root / "usr/lib/cca/front.py").write_text("")
-        self.assertRegex(self.dpkg(root, "--verify", "cca"), r"\A..5\S*\s+/usr/lib/cca/front.py\n\Z")
+        (root / "usr/lib/cca/cca_service/front.py").write_text("")
+        self.assertRegex(self.dpkg(root, "--verify", "cca"), r"\A..5\S*\s+/usr/lib/cca/cca_service/front.py\n\Z")
 
     def test_changelog(self):
         """Its versions are those of the page on changes."""
@@ -499,7 +578,7 @@ class System(Packaged):
         self.inside("sh", "-c", "cd /var/lib/cca && cca run >/dev/null 2>&1", user="cca", input=(EXAMPLES / "start.txt").read_text())
         roles = (self.system / SETTINGS).read_text().replace("[role OFFICER]", "[role DEFAULT]").replace("officer", "default")
         (self.system / SETTINGS).write_text(roles)
-        self.inside("/usr/bin/env", "python3", "-B", "/usr/lib/cca/prepare.py", "/etc/cca/front.conf")
+        self.inside("/usr/bin/env", "python3", "-I", "-B", "/usr/sbin/cca-front", "--prepare", "/etc/cca/front.conf")
         self.assertEqual(self.shown("/run/cca"), "root:root 755")
         self.assertEqual(self.shown("/run/cca/default"), "cca:cca-default 2750")
         self.serves()
@@ -522,11 +601,11 @@ class System(Packaged):
         owner = (self.system / "var/lib/cca").stat()
         (self.system / "var/log/cca").mkdir(mode=0o700)
         os.chown(self.system / "var/log/cca", owner.st_uid, owner.st_gid)
-        words = ["chroot", "--userspec=cca:cca", self.system, "python3", "-B", "/usr/lib/cca/front.py", "--config", "/etc/cca/front.conf"]
+        words = ["chroot", "--userspec=cca:cca", self.system, "python3", "-I", "-B", "/usr/sbin/cca-front", "--config", "/etc/cca/front.conf"]
         front = subprocess.Popen(words, stderr=subprocess.DEVNULL)
         self.addCleanup(front.wait)
         self.addCleanup(front.kill)
-        ask = ["python3", "-B", "/usr/lib/cca/ask.py", "/run/cca/default/socket"]
+        ask = ["python3", "-B", "/usr/lib/cca/cca_service/ask.py", "/run/cca/default/socket"]
         self.assertEqual(self.inside(*ask, user="nobody:cca-default", input="CSNBKRC label=A\n"), "OK\n")
         it = self.run_inside(*ask, "--timeout", "5", user="nobody:nogroup", input="CSNBKRC label=B\n")
         self.assertEqual((it.returncode, it.stdout), (1, ""))

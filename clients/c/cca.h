@@ -75,7 +75,7 @@ struct cca_parsed {
 
 /* ---- beginning and end */
 
-/* `cca run` or `cca audit` in a folder, and the socket of a role of front.py. The first verb starts it or connects to it. The
+/* `cca run` or `cca audit` in a folder, and the socket of a role of cca-front. The first verb starts it or connects to it. The
    texts aren't copied. A name of a program with a slash in it must begin with one. */
 void cca_open(struct cca *it, const char *folder, const char *role);
 void cca_open_audited(struct cca *it, const char *folder, const char *role);

@@ -19,7 +19,7 @@ extern "C" {
 
 #define CCA_REPLY_SIZE 66581 /* bytes of the longest reply, with its newline */
 
-/* How cca ended, as docs/OPERATING.md explains. A signal is told as 128 and its number. */
+/* How cca ended, as docs/operating explains. A signal is told as 128 and its number. */
 enum cca_status {
     CCA_EXIT_DONE = 0,                /* its input ended, and each line was answered */
     CCA_EXIT_USAGE = 2,               /* the command line is wrong */
@@ -63,7 +63,7 @@ struct cca_client {
    ask: a child that it forks later needs a client, and a folder, of its own. */
 void cca_init(struct cca_client *it, const char *folder, const char *program, const char *command);
 
-/* Names the socket that cca_ask connects to, that of a role of front.py. Its requests name no role: the front adds it. */
+/* Names the socket that cca_ask connects to, that of a role of cca-front. Its requests name no role: the front adds it. */
 void cca_init_socket(struct cca_client *it, const char *socket);
 
 /* Sends a request of so many bytes, without its newline, and puts the reply into REPLY, of CCA_REPLY_SIZE bytes, with a zero
@@ -81,7 +81,7 @@ int cca_stop(struct cca_client *it);
 /* Kills cca, or closes the connection: for a reply that its request can't have. The status, or 0 where it isn't running. */
 int cca_drop(struct cca_client *it);
 
-/* Whether someone should look at the files before cca is started again: docs/OPERATING.md says how. It isn't started until then,
+/* Whether someone should look at the files before cca is started again: docs/operating says how. It isn't started until then,
    but for CCA_EXIT_IN_USE. */
 int cca_look_first(int status);
 

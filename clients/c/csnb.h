@@ -4,7 +4,7 @@
 
    Which cca is asked stands in the environment, or is named by csnb_use:
 
-       CCA_SOCKET                the socket of a role of front.py; or else:
+       CCA_SOCKET                the socket of a role of cca-front; or else:
        CCA_FOLDER, CCA_ROLE      the folder of cca.module, and the role of each request
        CCA, CCA_COMMAND          the program, "cca" if not set, and "run" or "audit"
        CCA_REASONS               "ibm": refusals have IBM's nearest return code and reason, and 8 and 9000 more where none is near

@@ -54,7 +54,7 @@ UNKNOWN = Status.UNKNOWN
 IN_USE = Status.IN_USE
 IN_USE_SECONDS = 10.0  # until the other run must have ended, as a backup, or that of a program that was started before
 IN_USE_PAUSE = 0.1
-# After these ends someone should look at the files before cca is started again: docs/OPERATING.md says how.
+# After these ends someone should look at the files before cca is started again: docs/operating says how.
 LOOK_FIRST: frozenset[int] = frozenset(
     {
         Status.USAGE,
@@ -101,7 +101,7 @@ class Ended(Error):
     """A request got no reply, and cca isn't running any more.
 
     status: how cca ended, as Status has it. None where a front has it.
-    in_doubt: whether what got no reply may have been carried out all the same. docs/OPERATING.md tells how to find out.
+    in_doubt: whether what got no reply may have been carried out all the same. docs/operating tells how to find out.
     replies: those that came before, where several requests were asked at once.
     """
 
@@ -136,8 +136,8 @@ class Process:
     handler does; so it is set last, and a process that isn't waiting is ended by whoever comes next.
     """
 
-    def __init__(self, words: list[str], folder: str):
-        self.words, self.folder = words, folder
+    def __init__(self, words: list[str], folder: str, executable: str | None = None, passed: tuple[int, ...] = ()):
+        self.words, self.folder, self.executable, self.passed = words, folder, executable, passed
         self.owner, self.is_waiting = os.getpid(), False
         self.child: subprocess.Popen[bytes] | None = None
         self.errors = tempfile.TemporaryFile()
@@ -148,7 +148,15 @@ class Process:
         """Starts it, in a session of its own, so that Ctrl-C at the terminal stops us, and we let cca end its request."""
         pipe = subprocess.PIPE
         self.child = subprocess.Popen(
-            self.words, cwd=self.folder, stdin=pipe, stdout=pipe, stderr=self.errors, bufsize=0, start_new_session=True
+            self.words,
+            executable=self.executable,
+            pass_fds=self.passed,
+            cwd=self.folder,
+            stdin=pipe,
+            stdout=pipe,
+            stderr=self.errors,
+            bufsize=0,
+            start_new_session=True,
         )
         for file in (self.input(), self.output()):
             os.set_blocking(file, False)
@@ -327,6 +335,8 @@ class Coprocessor(Turns):
         super().__init__()
         self.folder, self.patience = folder, patience
         self.words = [os.path.abspath(program) if "/" in program else program, command]
+        self.executable: str | None = None  # the file that is started, where its name is another one
+        self.passed: tuple[int, ...] = ()  # descriptors that it gets besides
         self.process: Process | None = None
         self.last: Ended | None = None
 
@@ -381,7 +391,7 @@ class Coprocessor(Turns):
 
     def start(self) -> Process:
         """Starts a process. It is ours before it runs, so that it isn't lost where this is broken off."""
-        process = self.process = Process(self.words, self.folder)
+        process = self.process = Process(self.words, self.folder, self.executable, self.passed)
         try:
             process.start()
         except BaseException:

@@ -1,2 +1,2 @@
 """The version. Made by clients/make_verbs.py from docs/CHANGES.md."""
-VERSION = '1.1'
+VERSION = '1.2'

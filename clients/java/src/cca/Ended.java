@@ -11,7 +11,7 @@ public final class Ended extends CcaException {
         this.isInDoubt = isInDoubt;
     }
 
-    /** Whether the request may have been carried out all the same. docs/OPERATING.md tells how to find out. */
+    /** Whether the request may have been carried out all the same. docs/operating tells how to find out. */
     public boolean isInDoubt() {
         return isInDoubt;
     }
