@@ -289,5 +289,7 @@ def sanitized(test, subject, kinds, without=()):
     test.assertEqual(it.returncode, 0, it.stderr[-3000:])
 
 
-if os.environ.get("SANITIZED"):
-    os.environ.pop("LD_PRELOAD", None)  # which is for this process, and not for those that it starts
+# The runtime of the sanitizers is for this process, and for programs that load the library, but not for others that it starts.
+RUNTIME = os.environ.pop("LD_PRELOAD", "") if os.environ.get("SANITIZED") else ""
+# Java has a handler of its own for addresses that it may not read.
+LOADING = {"LD_PRELOAD": RUNTIME, "ASAN_OPTIONS": "detect_leaks=0:handle_segv=0"} if RUNTIME else {}

@@ -45,8 +45,8 @@ EDITS = [
     Edit(CLIENT, "self.child.returncode = UNKNOWN", "self.child.returncode = 0", "Python.test_lost_status"),
     Edit(CLIENT, "os.register_at_fork(after_in_child=leave_all)", "", "Python.test_child_that_lives_on"),
     Edit(CLIENT, 'if not line.endswith(b"\\n"):', "if False:", "Programs.test_half_a_line"),
-    Edit("client.c", "if (line[length - 1] != '\\n') {", "if (line[length - 1] == '\\0') {", "Programs.test_half_a_line"),
-    Edit("client.c", "if (came >= 0 && fflush(stdout) == 0)", "if (came >= 0 || fflush(stdout) == 0)", "Programs.test_full"),
+    Edit("examples/clients/client.c", "if (line[length - 1] != '\\n') {", "if (line[length - 1] == '\\0') {", "Programs.test_half_a_line"),
+    Edit("examples/clients/client.c", "if (came >= 0 && fflush(stdout) == 0)", "if (came >= 0 || fflush(stdout) == 0)", "Programs.test_full"),
     Edit("clients/c/cca_client.c", "F_DUPFD_CLOEXEC", "F_DUPFD", "C.test_apart"),
     Edit("clients/c/cca_client.c", "file = STDERR_FILENO + 1,", "file = STDERR_FILENO + 900,", "C.test_apart"),
     Edit("clients/c/cca_client.c", "    setsid();\n", "", "C.test_apart"),
@@ -62,7 +62,7 @@ EDITS = [
     Edit("clients/c/cca_client.c", "writev(it->ends->to, line->parts, 2)", "writev(it->ends->to, line->parts, 1)", "C.test_calls"),
     Edit("clients/c/cca_client.c", "pthread_sigmask(SIG_BLOCK, &broken, &before);", "pthread_sigmask(SIG_BLOCK, NULL, &before);", "C.test_each"),
     Edit("clients/c/cca_client.c", "memchr(request, '\\n', length)", "0", "C.test_each"),
-    Edit("client.c", "(size_t)length - 1, reply", 'strcspn(line, "\\n"), reply', "C.test_zero_byte"),
+    Edit("examples/clients/client.c", "(size_t)length - 1, reply", 'strcspn(line, "\\n"), reply', "C.test_zero_byte"),
     Edit("clients/c/cca_client.c", "return is_one ? 1 : -1;", "return 1 + 0 * is_one;", "C.test_each"),
 ]
 

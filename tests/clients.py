@@ -1,5 +1,5 @@
-"""The clients of examples/clients: each is given the lines of a day at a bank and must print its replies, also where the program is
-killed in between. Many long replies must come while requests are still being written. The front is asked by clients of two roles
+"""The clients of examples/clients and clients/python, and the front. Each client is given the lines of a day at a bank and must print its
+replies, also where the program is killed in between. Many long replies must come while requests are still being written. The front is asked by clients of two roles
 at once, by one that names a role itself and by one that dies in the midst of a line; and after the program was killed."""
 import os
 import shutil
@@ -103,7 +103,7 @@ class Front(Case):
         super().setUp()
         self.replies(example("bank"))
         sockets = [f"{self.folder / role}={role}" for role in ("TELLER", "OFFICER")]
-        words = [sys.executable, "-B", CLIENTS / "front.py", self.folder, *sockets]
+        words = [sys.executable, "-B", TOP / "service" / "cca-front", self.folder, *sockets]
         self.front = subprocess.Popen(words, env={**os.environ, "CCA": self.program.path}, stderr=subprocess.DEVNULL)
         self.addCleanup(self.front.wait)
         self.addCleanup(self.front.kill)
@@ -150,7 +150,7 @@ class Front(Case):
     def test_half_a_line_asked(self):
         """The client of the front: a last line without its newline may be half a request, and isn't asked."""
         with self.connected("OFFICER"):
-            words = [sys.executable, "-B", CLIENTS / "ask.py", self.folder / "OFFICER"]
+            words = [sys.executable, "-B", TOP / "service" / "cca_service" / "ask.py", self.folder / "OFFICER"]
             it = subprocess.run(words, input=b"CSNBKRL prefix=PAY.\nCSNBKRD label=PAY.MAC", capture_output=True)
         self.assertEqual((it.returncode, it.stdout), (0, b"OK count=2 labels=PAY.DATA,PAY.MAC\n"))
         self.assertEqual(self.asked("OFFICER", "CSNBKRL prefix=PAY."), ["OK count=2 labels=PAY.DATA,PAY.MAC\n"])

@@ -15,7 +15,7 @@ import unittest
 import unittest.mock
 from pathlib import Path
 
-from tests.edits import CLIENTS, LIBRARIES, Edit, each_is_found
+from tests.edits import FRONT, LIBRARIES, Edit, each_is_found
 from tests.formats import as_part, chained, code, external, internal, joined, types, validation, value
 from tests.harness import EXAMPLES, TOP, Case, Fault, limited, scratch
 from tests.python_connected import Peer
@@ -241,7 +241,7 @@ class Fronted(Library):
         super().setUp()
         self.cca.close()
         paths = {role: self.folder / role for role in ("TELLER", "OFFICER", "DEFAULT")}
-        words = [sys.executable, "-B", CLIENTS / "front.py", self.folder, *[f"{path}={role}" for role, path in paths.items()]]
+        words = [sys.executable, "-B", FRONT, self.folder, *[f"{path}={role}" for role, path in paths.items()]]
         front = subprocess.Popen(words, env={**os.environ, "CCA": self.program.path}, stderr=subprocess.DEVNULL)
         self.addCleanup(front.wait)
         self.addCleanup(front.kill)

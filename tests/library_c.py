@@ -23,7 +23,7 @@ from pathlib import Path
 from tests.c_library import DONE, DOUBLE, ENDED, FIRST, IV, LAST, MASTER, MIDDLE, NEXT, SINGLE, SIZES, TRANSPORT, UNSAYABLE
 from tests.c_library import Cca, Generation, Library, Parsed, called, chained, code, data, declared, key_token, label, library, padded
 from tests.c_library import room, sanitized, told, token, vector
-from tests.edits import CLIENTS, LIBRARIES, Edit, each_is_found
+from tests.edits import FRONT, LIBRARIES, Edit, each_is_found
 from tests.formats import as_part, closed, external, internal, joined, made, pattern, types, unique, value
 from tests.harness import TOP, Case, Fault, scratch
 
@@ -602,7 +602,7 @@ class Sockets(Library):
         self.begin()
 
     def begin(self, *options):
-        words = [sys.executable, "-B", CLIENTS / "front.py", self.folder, f"{self.path}=TELLER", *options]
+        words = [sys.executable, "-B", FRONT, self.folder, f"{self.path}=TELLER", *options]
         self.front = subprocess.Popen(words, env={**os.environ, "CCA": self.program.path}, stderr=subprocess.DEVNULL)
         self.addCleanup(self.front.wait)
         self.addCleanup(self.front.kill)

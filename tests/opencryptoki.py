@@ -53,6 +53,9 @@ done
 echo "$number"
 exec cat
 """
+# The token is loaded in a way that sanitizers don't allow, so that its programs run under valgrind, where that is asked for.
+VALGRIND = ["valgrind", "--quiet", "--vgdb=no", "--error-exitcode=99", "--leak-check=no", f"--suppressions={TOP / 'tests' / 'python.supp'}"]
+CHECKER = VALGRIND if os.environ.get("CHECKED") else []
 NAMESPACES = ["--mount", "--ipc", "--pid"]
 
 
@@ -105,7 +108,7 @@ class Token(Case):
         settings = {"LD_LIBRARY_PATH": cls.shared, "LD_PRELOAD": cls.shared / "lacking.so", "PYTHONPATH": TOP}
         settings |= {"CCA": cls.program.path, "CCA_FOLDER": cls.module, "CCA_ROLE": "DEFAULT", "CCA_COMMAND": "audit", **named}
         enter = ["nsenter", f"--target={cls.number}", *NAMESPACES, "env", *(f"{name}={value}" for name, value in settings.items())]
-        return subprocess.run([*enter, *words], capture_output=True, text=True, timeout=200)
+        return subprocess.run([*enter, *CHECKER, *words], capture_output=True, text=True, timeout=200)
 
     @classmethod
     def tool(cls, *words, **named):
@@ -195,6 +198,19 @@ class Token(Case):
         came = self.tool("--login", "--pin", PIN, "--keygen", "--key-type", "DES3:24", "--label", "TRIPLE")
         self.assertNotEqual(came.returncode, 0)
         self.assertIn("CKR_FUNCTION_FAILED", came.stderr)
+
+
+class Checked(Case):
+    def test_whole_suite(self):
+        """The same under valgrind, which finds no use of memory that wasn't written, or isn't there."""
+        if os.environ.get("CHECKED") or os.environ.get("PLANTED"):
+            self.skipTest("this is run by itself")
+        if reason := lacking() or ("" if shutil.which("valgrind") else "valgrind isn't installed"):
+            self.skipTest(reason)
+        words = [sys.executable, "-B", "-m", "unittest", "tests.opencryptoki.Token"]
+        environment = {**os.environ, "CHECKED": "1", "PYTHONMALLOC": "malloc"}
+        it = subprocess.run(words, cwd=TOP, env=environment, capture_output=True, text=True)
+        self.assertEqual(it.returncode, 0, it.stderr[-3000:])
 
 
 if __name__ == "__main__":

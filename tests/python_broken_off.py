@@ -27,7 +27,7 @@ from cca import Coprocessor, Ended, Socket, client, coprocessor  # noqa: E402
 FAULTS = []  # its faults are those of EDITS
 EDITS = [
     Edit("clients/python/cca/client.py", "        if self.process and not self.process.is_waiting:\n            self.ended(BROKEN_OFF, True)\n", "", "Places.test_ended"),
-    Edit("clients/python/cca/client.py", "process = self.process = Process(self.words, self.folder)", "process = Process(self.words, self.folder)", "Places.test_started"),
+    Edit("clients/python/cca/client.py", "process = self.process = Process(", "process = Process(", "Places.test_started"),
     Edit("clients/python/cca/client.py", "            with self.asking:\n                return call()", "            self.asking.acquire()\n            came = call()\n            self.asking.release()\n            return came", "Places.test_asked"),
     Edit("clients/python/cca/client.py", "os.WEXITED | os.WNOHANG | os.WNOWAIT", "os.WEXITED | os.WNOHANG", "Places.test_ended"),
 ]  # fmt: skip

@@ -12,7 +12,7 @@ import time
 import unittest
 from pathlib import Path
 
-from tests.edits import CLIENTS, Edit, each_is_found
+from tests.edits import FRONT, Edit, each_is_found
 from tests.formats import chained, value
 from tests.harness import Case, Fault, limited
 from tests.python_library import DATA, DATA_16, DOUBLE, IV, SINGLE, STUB, Library
@@ -282,7 +282,7 @@ class Fronted(Library):
     def test_roles(self):
         self.cca.close()
         paths = {role: self.folder / role for role in ("TELLER", "OFFICER")}
-        words = [sys.executable, "-B", CLIENTS / "front.py", self.folder, *[f"{path}={role}" for role, path in paths.items()]]
+        words = [sys.executable, "-B", FRONT, self.folder, *[f"{path}={role}" for role, path in paths.items()]]
         front = subprocess.Popen(words, env={**os.environ, "CCA": self.program.path}, stderr=subprocess.DEVNULL)
         self.addCleanup(front.wait)
         self.addCleanup(front.kill)

@@ -12,7 +12,10 @@ from tests.formats import chained, code, internal, made, types
 from tests.harness import Case, Fault
 from tests.keys import ceremony
 
-FAULTS = [Fault(r'"$CCA" "$@" | sed -u "s/^\(OK.* chain=.*\)00\$/\101/"', case="test_padding", tells="wanted: OK text=.* chain=.*00$")]
+FAULTS = [
+    Fault(r'"$CCA" "$@" | sed -u "s/^\(OK.* chain=.*\)00\$/\101/"', case="test_padding", tells="wanted: OK text=.* chain=.*00$"),
+    Fault(r'"$CCA" "$@" | sed -u "s/^\(OK text=.*\).\$/\1x/"', case="test_keys_whose_halves_are_alike", tells="wanted: OK text=.*$"),
+]
 
 LONGEST = 4088  # bytes of a segment
 LANES = [36, 37, 127, 128, 129]  # blocks: the last that are deciphered pair by pair, the first in lanes, and about a part of these
@@ -165,9 +168,15 @@ def sized(of_text, whole):
 
 def wholes(make, key):
     """Texts that aren't cut: of whole blocks, about the counts from which on they are deciphered in lanes, and of the most bytes."""
-    for count in (*LANES, 165, 512):
+    for count in (1, 2, *LANES, 165, 256, 512):
         whole = make("NONE", key, LONG[: 8 * count])
         yield f"{whole.words} {whole.begin}pad=NONE text={whole.given.hex()}", f"OK text={whole.replied.hex()}"
+
+
+def halves_alike():
+    """Double-length keys whose halves agree in their first byte, in all but one, or wholly: by their length they are no single ones."""
+    left = SINGLE.clear.hex()
+    yield from (key_of("DATA", left + right) for right in (f"01{'7c' * 7}", f"{left[:14]}ec", f"7c{left[2:]}", left))
 
 
 def wrong_chains():
@@ -236,6 +245,11 @@ class Segments(Case):
     def test_whole_texts(self):
         for make, key in itertools.product((enciphering, deciphering), (SINGLE, DOUBLE)):
             with self.subTest(make.__name__, size=len(key.clear)):
+                self.replies(wholes(make, key))
+
+    def test_keys_whose_halves_are_alike(self):
+        for make, key in itertools.product((enciphering, deciphering), halves_alike()):
+            with self.subTest(make.__name__, key=key.clear.hex()):
                 self.replies(wholes(make, key))
 
     def test_padding(self):
