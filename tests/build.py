@@ -135,7 +135,7 @@ class Building(unittest.TestCase):
         self.assertEqual((first.communicate(timeout=60)[0].splitlines()[-1], first.returncode), ("ran run", 0))
 
     def test_processors(self):
-        """The program itself has all the processors, and each other crate one."""
+        """The program itself has all the processors, and a crate beside which no other one is ready has two where there are two."""
         processors = sorted(os.sched_getaffinity(0))
         self.addCleanup(os.sched_setaffinity, 0, processors)
         for count in range(1, min(len(processors), 3) + 1):
@@ -143,8 +143,29 @@ class Building(unittest.TestCase):
                 self.write("lists", f"for {count}")
                 os.sched_setaffinity(0, processors[:count])
                 self.assertEqual(self.called("run")[0], 0)
-                self.assertEqual((self.kit / "jobs").read_text().split(), ["1", "1", str(count)])
+                wanted = str(min(count, 2))
+                self.assertEqual((self.kit / "jobs").read_text().split(), [wanted, wanted, str(count)])
                 (self.kit / "jobs").unlink()
+
+    def test_kept_times(self):
+        """The seconds of each proof are kept with its jobs, and what a build takes by them is told."""
+        (self.kit / "do.keys").write_text("sleep 1")
+        processors = sorted(os.sched_getaffinity(0))
+        self.addCleanup(os.sched_setaffinity, 0, processors)
+        os.sched_setaffinity(0, processors[:1])
+        self.assertEqual(self.called("run")[0], 0)
+        kept = {name: (self.checkout / f"crates/cca/out/statements/{name}.seconds").read_text().split() for name in ("lists", "keys", "cca")}
+        self.assertEqual({jobs for _, jobs in kept.values()}, {"1"})
+        self.assertGreaterEqual(float(kept["keys"][0]), 1.0)
+        environment = {**os.environ, "PATH": f"{self.kit / 'bin'}:{os.environ['PATH']}"}
+        words = [self.checkout / "tools/build/simulate", "1", "4"]
+        for name in kept:
+            (self.checkout / f"crates/cca/out/statements/{name}.seconds").write_text("24.0 1\n")
+        said = subprocess.run(words, env=environment, stdout=subprocess.PIPE, text=True, check=True).stdout.splitlines()
+        # two jobs are 5/3 times as fast as one, and four of the program itself 2.5 times
+        self.assertEqual([it.split() for it in said[1:]], [["1", "72", "72", "72"], ["4", "58", "38", "72"]])
+        (self.checkout / "crates/cca/out/statements/keys.seconds").unlink()
+        self.assertEqual(subprocess.run(words, env=environment, stderr=subprocess.PIPE, text=True).returncode, 1)
 
     def test_what_changed_and_what_stands_on_it(self):
         self.called()
