@@ -12,9 +12,10 @@ from concurrent.futures import ThreadPoolExecutor
 from tests.harness import TOP, program_path
 
 # what files of checks share
-SHARED = {"__init__", "__main__", "c_library", "cryptoki", "edits", "harness", "formats", "keys", "pkcs11_module"}
+SHARED = {"__init__", "__main__", "c_library", "cryptoki", "edits", "harness", "formats", "keys", "pkcs11_module", "served", "serviced"}
 # those that take longest, the first one longest
-LONGEST = ["front", "pkcs11", "client_replies", "planted", "tools/commands/run", "library_c", "python_library", "reencipher"]
+LONGEST = ["year", "ctl_backup", "ctl_files", "ctl_audit_log", "front", "pkcs11", "ctl_service", "client_replies", "planted", "tools/commands/run"]
+LONGEST += ["library_c", "python_library", "reencipher"]
 
 
 def files():

@@ -1,6 +1,7 @@
 """The program where there is much of something: a store that is full of labels, demos of up to 1,000 labels, 200,000 lines, which must
 take less than two seconds of the processor, and the measurer of tools/bench, of whose rows each must tell a cost.
 """
+import os
 import re
 import subprocess
 
@@ -62,6 +63,19 @@ class Load(Case):
         came, took = processor_seconds(lambda: self.cca("run", given=given))
         self.assertEqual((came.status, len(came.whole)), (0, 200000))
         self.assertLess(took, 2)
+
+
+class Rates(Case):
+    def test_measurer_of_the_front(self):
+        """It tells a rate for each number of clients, with an audit trail and without. What they come to isn't judged."""
+        words = [TOP / "tools/bench/front", "--seconds", "0.1", "--rounds", "1"]
+        environment = {**os.environ, "CCA_PROGRAM": str(self.program.path)}
+        it = subprocess.run(words, capture_output=True, text=True, env=environment)
+        self.assertEqual(it.returncode, 0, it.stderr)
+        for audited in ("no", "yes"):
+            for clients in (1, 4, 16, 64):
+                with self.subTest(audited=audited, clients=clients):
+                    self.assertRegex(it.stdout, rf"(?m)^\|[^|]*\| {audited} \| {clients} \| [1-9][0-9,]* \|")
 
 
 class Costs(Case):

@@ -75,8 +75,8 @@ EDITED = {
     ),
     "links": (
         ["tools/pages/run"],
-        [Edit("docs/OPERATING.md", r"\(#a-failing-disk\)", "(#a-failed-disk)")],
-        "OPERATING.md: the link #a-failed-disk leads nowhere",
+        [Edit("docs/operating/REFERENCE.md", r"#a-failing-drive\)", "#a-failed-drive)")],
+        "REFERENCE.md: the link RUNBOOKS.md#a-failed-drive leads nowhere",
     ),
     "surface": (
         ["tools/surface/run"],
@@ -110,15 +110,30 @@ EDITED = {
     ),
     "settings": (
         [sys.executable, "-m", "unittest", "tests.settings", "-k", "Wrong.test_words"],
-        [Edit("examples/clients/settings.py", "if word not in known:", "if False:")],
+        [Edit("service/cca_service/settings.py", "if word not in known:", "if False:")],
         "FAIL: test_words",
     ),
     "prepare": (
         [sys.executable, "-m", "unittest", "tests.prepare", "-k", "AnyUser"],
-        [Edit("examples/clients/prepare.py", r"(?m)^    if not is_roots\(folder\):$", "    if False:")],
+        [Edit("service/cca_service/prepare.py", r"(?m)^    if not is_roots\(folder\):$", "    if False:")],
         "FAIL: test_folder_of_settings",
     ),
     "build": (["tools/build/run"], [Edit("bin/rt", WHOLE, BASH + "echo built")], "the program could not be built"),
+    "ccactl_page": (
+        ["tools/manual/run"],
+        [Edit("service/cca_service/ctl/ceremony.py", '"--from-pipe"', '"--by-pipe"')],
+        r"service/ccactl\.8 isn't what tools/manual/ccactl makes",
+    ),
+    "front_page": (
+        ["tools/manual/run"],
+        [Edit("service/cca-front.8", r"\.B \\-\\-idle IDLE", r".B \\-\\-idles IDLE")],
+        "the page of cca-front lacks --idle",
+    ),
+    "schedule": (
+        [sys.executable, "-m", "unittest", "tests.build_schedule"],
+        [Edit("tools/build/scheduling.py", r"idle = most - busy - len\(ready\)", "idle = most - busy")],
+        "FAIL: test_starts",
+    ),
     "build_again": (
         [sys.executable, "-m", "unittest", "tests.build"],
         [Edit("tools/build/prove", r" and self\.mark\(\)\.read_text\(\) == self\.sum", "")],

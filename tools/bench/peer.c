@@ -100,28 +100,40 @@ static void cbc(DES_key_schedule *s, unsigned char start, int direction) {
     DES_ede3_cbc_encrypt(text, text, TEXT, &s[0], &s[1], &s[2], &chain, direction);
 }
 
-static void measure_text(void) {
+static void single_cbc(DES_key_schedule *s, unsigned char start, int direction) {
+    DES_cblock chain;
+    memset(chain, start, 8);
+    DES_ncbc_encrypt(text, text, TEXT, &s[0], &chain, direction);
+}
+
+static void mac(DES_key_schedule *s, unsigned char start, int direction) {
+    DES_cblock zero = {0}, code;
+    (void)start, (void)direction;
+    DES_cbc_cksum(text, &code, TEXT, &s[0], (const_DES_cblock *)&zero);
+}
+
+typedef void work_on_text(DES_key_schedule *, unsigned char, int);
+
+static void report_text(const char *name, work_on_text *work, unsigned char start, int direction) {
     DES_key_schedule s[3];
-    DES_cblock zero = {0}, mac;
-    uint64_t fastest[3] = {UINT64_MAX, UINT64_MAX, UINT64_MAX};
+    uint64_t fastest = UINT64_MAX;
     example_schedules(s);
     for (int i = 0; i < ROUNDS; i++) {
-        for (int j = 0; j < 3; j++) {
-            uint64_t start = now();
-            if (j == 0)
-                cbc(s, 7, DES_ENCRYPT);
-            else if (j == 1)
-                cbc(s, 9, DES_DECRYPT);
-            else
-                DES_cbc_cksum(text, &mac, TEXT, &s[0], (const_DES_cblock *)&zero);
-            uint64_t took = now() - start;
-            if (took < fastest[j])
-                fastest[j] = took;
-        }
+        uint64_t begun = now();
+        work(s, start, direction);
+        uint64_t took = now() - begun;
+        if (took < fastest)
+            fastest = took;
     }
-    printf("encipher %d %llu %d\n", TEXT, (unsigned long long)fastest[0], text[0]);
-    printf("decipher %d %llu %d\n", TEXT, (unsigned long long)fastest[1], text[0]);
-    printf("mac %d %llu %d\n", TEXT, (unsigned long long)fastest[2], mac[0]);
+    printf("%s %d %llu %d\n", name, TEXT, (unsigned long long)fastest, text[0]);
+}
+
+static void measure_text(void) {
+    report_text("encipher", cbc, 7, DES_ENCRYPT);
+    report_text("decipher", cbc, 9, DES_DECRYPT);
+    report_text("encipher_single", single_cbc, 7, DES_ENCRYPT);
+    report_text("decipher_single", single_cbc, 9, DES_DECRYPT);
+    report_text("mac", mac, 0, DES_ENCRYPT);
 }
 
 int main(void) {
