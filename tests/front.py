@@ -393,6 +393,7 @@ class Log(Fronted):
     def test_fields(self):
         self.begin()
         asked(self.folder / "TELLER", "CSNBKYT key=L:PAY.DATA", "CSNBENC key=T:00 text=00", "", "CSNBKYT key=L:PAY stub=ends8")
+        self.comes(lambda: sum("verb" in it for it in self.told()) == 4)  # the log is written after the replies
         lines = [it for it in self.told() if "verb" in it]
         wanted = [("CSNBKYT", "PAY.DATA", "00"), ("CSNBENC", "-", "00"), ("-", "-", "01"), ("CSNBKYT", "-", "-")]
         self.assertEqual([(it["verb"], it["label"], it["rule"]) for it in lines], wanted)

@@ -269,6 +269,7 @@ class Ends(Fronted):
         """It is started again at once, and told; no request is lost by that."""
         front = self.begin()
         self.kill(front)
+        self.comes(lambda: any(it.get("event") == "cca ended" for it in self.told()))
         self.assertEqual([it["status"] for it in self.told() if it.get("event") == "cca ended"], [-signal.SIGKILL])
         self.is_serving()
         self.ends_well(front)
